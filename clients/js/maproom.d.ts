@@ -46,6 +46,10 @@ export interface AskOptions {
   timeout?: number | null;
 }
 
+export interface ChangeOptions extends AskOptions {
+  since?: number;
+}
+
 export interface ConnectOptions {
   room: string;
   name: string;
@@ -121,21 +125,21 @@ export class Room extends EventTarget {
   ): void;
   close(): void;
   ask(message: Message, options?: AskOptions): Promise<Record<string, unknown>>;
-  createNode(lat: Degrees, lon: Degrees, tags?: Tags, options?: AskOptions & { el?: string }): Promise<string>;
-  createWay(nodes: Iterable<number | string>, tags?: Tags, options?: AskOptions & { el?: string }): Promise<string>;
-  createRelation(members: Members, tags?: Tags, options?: AskOptions & { el?: string }): Promise<string>;
-  retag(el: string, tags: Record<string, string | null>, options?: AskOptions): Promise<number>;
-  move(els: string | readonly string[], dlat: Degrees, dlon: Degrees, options?: AskOptions): Promise<number>;
-  reverse(el: string, options?: AskOptions): Promise<number>;
-  setNodes(el: string, nodes: Iterable<number | string>, options?: AskOptions): Promise<number>;
-  setMembers(el: string, members: Members, options?: AskOptions): Promise<number>;
-  delete(el: string, options?: AskOptions): Promise<number>;
-  purge(el: string, options?: AskOptions): Promise<number>;
-  split(el: string, at: number, options?: AskOptions & { into?: string }): Promise<string>;
-  join(el: string, other: string, options?: AskOptions): Promise<number>;
-  merge(el: string, other: string, options?: AskOptions): Promise<number>;
-  unglue(el: string, at: number, options?: AskOptions & { into?: string }): Promise<string>;
-  group(steps: Iterable<Message>, options?: AskOptions): Promise<number>;
+  createNode(lat: Degrees, lon: Degrees, tags?: Tags, options?: ChangeOptions & { el?: string }): Promise<string>;
+  createWay(nodes: Iterable<number | string>, tags?: Tags, options?: ChangeOptions & { el?: string }): Promise<string>;
+  createRelation(members: Members, tags?: Tags, options?: ChangeOptions & { el?: string }): Promise<string>;
+  retag(el: string, tags: Record<string, string | null>, options?: ChangeOptions): Promise<number>;
+  move(els: string | readonly string[], dlat: Degrees, dlon: Degrees, options?: ChangeOptions): Promise<number>;
+  reverse(el: string, options?: ChangeOptions): Promise<number>;
+  setNodes(el: string, nodes: Iterable<number | string>, options?: ChangeOptions): Promise<number>;
+  setMembers(el: string, members: Members, options?: ChangeOptions): Promise<number>;
+  delete(el: string, options?: ChangeOptions): Promise<number>;
+  purge(el: string, options?: ChangeOptions): Promise<number>;
+  split(el: string, at: number, options?: ChangeOptions & { into?: string }): Promise<string>;
+  join(el: string, other: string, options?: ChangeOptions): Promise<number>;
+  merge(el: string, other: string, options?: ChangeOptions): Promise<number>;
+  unglue(el: string, at: number, options?: ChangeOptions & { into?: string }): Promise<string>;
+  group(steps: Iterable<Message>, options?: ChangeOptions): Promise<number>;
   newName(kind: "n" | "w" | "r"): string;
   undo(seq?: number, options?: AskOptions): Promise<{ seq: number; undid?: number }>;
   undoLastPossible(options?: AskOptions): Promise<{ seq: number; undid: number } | null>;
@@ -180,6 +184,11 @@ export class Refused extends MaproomError {
   readonly action: number | null;
   readonly element: string | null;
   readonly entry: number | null;
+}
+
+export class Changed extends Refused {
+  readonly element: string;
+  readonly entry: number;
 }
 
 export const actions: {

@@ -20,7 +20,7 @@
    * @typedef {import("./maproom").Degrees} Degrees
    * @typedef {import("./maproom").Members} Members
    * @typedef {import("./maproom").State} State
-   * @typedef {import("./maproom").AskOptions} AskOptions
+   * @typedef {import("./maproom").ChangeOptions} ChangeOptions
    * @typedef {"n" | "w" | "r"} Kind
    *
    * What the room sends: an answer under the id of its message, or the news of an entry.
@@ -98,6 +98,18 @@
   const isChange = ({ message }) => !QUERIES.has(message.do);
 
   /**
+   * The entry that the mirror needs before an answer is reported, or 0. After a refusal `changed` a caller looks at the
+   * mirror again, and would find it unchanged before the news of that entry.
+   * @param {Asked} asked
+   * @param {Answer} answer
+   * @returns {number}
+   */
+  function entryOf(asked, { ok, no }) {
+    if (no) return no.why === "changed" ? no.with : 0;
+    return isChange(asked) ? ok.seq : 0;
+  }
+
+  /**
    * A client's knowledge of a room: the mirror `elements` by name, the number `seq` of its last entry (null before
    * the first welcome), and `authors`, by the number of the entry. Each method returns the texts to send. `events`
    * collects what happened, and the caller empties it. At most `window` messages are on their way at once.
@@ -129,7 +141,7 @@
       /** @type {Set<Asked>} */
       this.queued = new Set(); // not sent in this session
       /** @type {{ seq: number, asked: Asked, answer: Answer }[]} */
-      this.settling = []; // accepted changes whose entries are not in the mirror yet
+      this.settling = []; // answers whose entries are not in the mirror yet
       /** @type {{ elements: Map<string, Element>, seq: number, authors: Map<number, string> } | null} */
       this.gap = null; // the state before a new session, until it is known which run of the server answers
       /** @type {Record<Kind, number>} */
@@ -173,8 +185,9 @@
     }
 
     /**
-     * Adds a message that `sendMore` sends. `done` gets {"ok": ..} or {"no": ..}; an accepted change is in the mirror
-     * by then. The core gives each message an id of its own, because an accepted change spends it.
+     * Adds a message that `sendMore` sends. `done` gets {"ok": ..} or {"no": ..}. By then the mirror has an accepted
+     * change, and the entry that a refusal `changed` names. The core gives each message an id of its own, because an
+     * accepted change spends it.
      * @param {Message} message
      * @param {(answer: Answer) => void} [done]
      */
@@ -325,7 +338,8 @@
       for (const asked of waiting) {
         const isSent = asked.timesSent > 0;
         asked.timesSent = 0;
-        if (isChange(asked) && (isSent || restarted || "seq" in asked.message)) {
+        const namesAnEntry = "seq" in asked.message || "since" in asked.message;
+        if (isChange(asked) && (isSent || restarted || namesAnEntry)) {
           dropped.push([asked, { why: isSent ? "unknown" : "not_sent", restarted }]);
         } else {
           this.queued.add(asked);
@@ -349,14 +363,10 @@
       const isLost = asked.timesSent > 1 && no?.why === "repeat";
       /** @type {Answer} */
       const answer = isLost ? { ok: { seq: no.seq } } : no ? { no } : { ok };
-      if (answer.ok && isChange(asked)) {
-        this.accepted = { id: asked.id, seq: answer.ok.seq };
-        if (answer.ok.seq > (this.seq ?? 0)) {
-          this.settling.push({ seq: answer.ok.seq, asked, answer });
-          return this.sendMore();
-        }
-      }
-      asked.done(answer);
+      const entry = entryOf(asked, answer);
+      if (answer.ok && isChange(asked)) this.accepted = { id: asked.id, seq: entry };
+      if (entry > (this.seq ?? 0)) this.settling.push({ seq: entry, asked, answer });
+      else asked.done(answer);
       return this.sendMore();
     }
 
@@ -384,7 +394,7 @@
       return [];
     }
 
-    /** Reports the accepted changes up to an entry, or all. */
+    /** Reports the answers whose entries are in the mirror up to an entry, or all. */
     settle(seq = Infinity) {
       while (this.settling.length > 0 && this.settling[0].seq <= seq) {
         const [{ asked, answer }] = this.settling.splice(0, 1);
@@ -439,6 +449,7 @@
     too_many: "{el} would have too many nodes, members or tags",
     in_use: "{by} refers to {el}",
     nothing: "the map would not change",
+    changed: "entry {with} of {author} changed {el} since: look at it again",
     memory: "the server is out of memory",
   };
 
@@ -553,6 +564,24 @@
   }
 
   /**
+   * The message would change what the later `entry` of another author, `author`, changed at `element` after what the
+   * message had seen (`since`). The mirror has that entry: look at it, and decide again.
+   */
+  class Changed extends Refused {
+    /**
+     * @param {Refusal} no
+     * @param {string | null} [author]
+     */
+    constructor(no, author) {
+      super(no, author);
+      /** @type {string} */
+      this.element = no.el;
+      /** @type {number} */
+      this.entry = no.with;
+    }
+  }
+
+  /**
    * The error for a refusal, or for a reason of the core: `unknown`, `not_sent`, `closed`.
    * @param {Refusal} no
    * @param {string} [author]
@@ -560,7 +589,8 @@
   function errorOf(no, author) {
     if (no.why === "unknown") return new Unknown(no.restarted);
     if (no.why === "not_sent") return new NotSent(no.restarted);
-    return no.why === "closed" ? new Closed(no.sent) : new Refused(no, author);
+    if (no.why === "closed") return new Closed(no.sent);
+    return no.why === "changed" ? new Changed(no, author) : new Refused(no, author);
   }
 
   /**
@@ -568,7 +598,7 @@
    * @param {Error} error
    */
   function shortWords(error) {
-    if (!(error instanceof Refused) || error.why === "conflict" || error.why === "in_use") return error.message;
+    if (!(error instanceof Refused) || ["changed", "conflict", "in_use"].includes(error.why)) return error.message;
     return placeOf(error.no) + membersOf(error.no);
   }
 
@@ -787,7 +817,7 @@
       return this.#core.elements;
     }
 
-    /** The number of the last entry in the mirror. */
+    /** The number of the last entry in `elements`: what you see now, for `since`. */
     get seq() {
       return this.#core.seq ?? 0;
     }
@@ -1026,7 +1056,8 @@
 
     /**
      * Sends a message without its id, and gives what the answer has under `ok`. When the answer to a change is given,
-     * `elements` has the change. If you abort it, the message is not sent any more; if it was sent, it may be done.
+     * `elements` has the change. When it fails with Changed, `elements` has what the other author changed. If you abort
+     * it, the message is not sent any more; if it was sent, it may be done.
      * @type {Api["ask"]}
      */
     ask(message, { signal = undefined, timeout = this.#options.timeout } = {}) {
@@ -1062,12 +1093,22 @@
     }
 
     /**
+     * Asks for a change. `since` is the entry up to which its author had seen the room.
      * @param {Message} message
-     * @param {AskOptions} [options]
+     * @param {ChangeOptions} [options]
+     */
+    #askFor(message, options = {}) {
+      const { since, ...others } = options;
+      return this.ask(since === undefined ? message : { ...message, since }, others);
+    }
+
+    /**
+     * @param {Message} message
+     * @param {ChangeOptions} [options]
      * @returns {Promise<number>}
      */
     async #change(message, options) {
-      return /** @type {number} */ ((await this.ask(message, options)).seq);
+      return /** @type {number} */ ((await this.#askFor(message, options)).seq);
     }
 
     /**
@@ -1075,13 +1116,13 @@
      * @param {Kind} kind
      * @param {string | undefined} el
      * @param {(name: string) => Message} make
-     * @param {AskOptions} [options]
+     * @param {ChangeOptions} [options]
      */
     async #create(kind, el, make, options) {
       for (let tries = 0; tries < TRIES; tries += 1) {
         const name = el ?? this.#core.newName(kind);
         try {
-          await this.ask(make(name), options);
+          await this.#askFor(make(name), options);
           return name;
         } catch (error) {
           const isTaken = error instanceof Refused && error.why === "present" && error.element === name;
@@ -1092,7 +1133,9 @@
     }
 
     // Each action gives the number of its entry; those that make an element give its name, which is a new one unless
-    // you give it. `options` has `signal` and `timeout`.
+    // you give it. `options` has `signal`, `timeout` and `since`: the number `seq` of the map on which you decided. If
+    // another author changed since then what the action would change, the room refuses it, and it fails with Changed. A
+    // server before version 2.0.0 does not read `since`.
 
     /** @type {Api["createNode"]} */
     createNode(lat, lon, tags = {}, { el = undefined, ...options } = {}) {
@@ -1249,14 +1292,14 @@
   /** @type {Library} */
   const library = {
     connect, Room, Core, OutOfStep, HelloRefused, MaproomError, ConnectionFailed, Closed, Unknown, NotSent, NoAnswer,
-    Refused, actions, errorOf, shortWords,
+    Refused, Changed, actions, errorOf, shortWords,
   };
 
   if (typeof module === "object" && module.exports) {
     // Node finds the names for an import in this literal.
     module.exports = {
       connect, Room, Core, OutOfStep, HelloRefused, MaproomError, ConnectionFailed, Closed, Unknown, NotSent, NoAnswer,
-      Refused, actions, errorOf, shortWords,
+      Refused, Changed, actions, errorOf, shortWords,
     };
   } else {
     Object.assign(globalThis, { maproom: library });

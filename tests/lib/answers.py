@@ -13,6 +13,7 @@ MEMBERS = {
     "tag_conflict": {"key"},
     "in_use": {"by", "el"},
     "conflict": {"at", "with"},
+    "changed": {"el", "with"},
 }
 
 # The reasons for which an action may be refused, and a query.

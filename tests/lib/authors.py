@@ -80,15 +80,19 @@ class Stage:
 
 class Record:
     """What the client of an author reported of the author's changes: the entry of each accepted change, and the changes
-    of which nobody knows, each with the times at which it was sent and answered."""
+    of which nobody knows, each with the times at which it was sent and answered. `since` has the number that a change
+    gave, by its entry and these times."""
 
     def __init__(self) -> None:
         self.accepted: list[tuple[int, float, float]] = []
         self.unknown: list[tuple[float, float]] = []
+        self.since: dict[tuple[int, float, float], int] = {}
 
-    def accept(self, seq: int, asked: float, answered: float | None = None) -> None:
+    def accept(self, seq: int, asked: float, answered: float | None = None, since: int | None = None) -> None:
         """Notes an accepted change."""
         self.accepted.append((seq, asked, answered or time.time()))
+        if since is not None:
+            self.since[self.accepted[-1]] = since
 
     def lose(self, asked: float, answered: float | None = None) -> None:
         """Notes a change of which nobody knows."""
@@ -97,6 +101,14 @@ class Record:
     def entries(self, run: Run, journal: Journal) -> dict[int, float]:
         """The entries that are of this run for sure, with the times of their answers."""
         return {seq: answered for seq, asked, answered in self.accepted if journal.run_of(asked, answered) is run}
+
+    def guarded(self, run: Run, journal: Journal) -> dict[int, int]:
+        """The numbers that changes gave whose entries are of this run for sure, by their entries."""
+        return {
+            seq: since
+            for (seq, asked, answered), since in self.since.items()
+            if journal.run_of(asked, answered) is run and seq <= run.entry_count
+        }
 
     def unsure(self, run: Run, journal: Journal) -> int:
         """How many changes may be of this run."""
@@ -127,6 +139,8 @@ class Author:
         self.rests = False
         self.last: object = "nothing"
         self.steps: collections.Counter[str] = collections.Counter()
+        # The run and the number of each entry that was compared with what the author had seen.
+        self.compared: set[tuple[int, int]] = set()
         # The time of the next step.
         self.next = 0.0
 
@@ -163,6 +177,15 @@ class Author:
         more = sorted(own - set(known))
         what = f"entries of run {run.number} that the client did not report, besides {unsure} of which it does not know"
         self.check(what, more[:MOST_NAMED] if len(more) > unsure else [], [])
+        self.check_guarded(run)
+
+    def check_guarded(self, run: Run) -> None:
+        """Checks that no accepted change overwrote what its author had not seen."""
+        guarded = self.record.guarded(run, self.room.journal)
+        found = [(seq, since, run.overwritten(seq, since)) for seq, since in guarded.items()]
+        overwritten = [each for each in found if each[2]]
+        self.check(f"parts in run {run.number} that were overwritten unseen", overwritten[:MOST_NAMED], [])
+        self.compared |= {(run.number, seq) for seq in guarded}
 
     def lost(self, run: Run) -> dict[int, float]:
         """The entries of a killed run that were acknowledged and not saved, each with the seconds from the reply to the

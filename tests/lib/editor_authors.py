@@ -17,7 +17,7 @@ from xml.sax.saxutils import quoteattr
 from .authors import AuthorsRoom, Stage, ThreadedAuthor, Villager
 from .cases import given
 from .editor_rooms import Answer, OsmApi
-from .journals import SOON, Entry, Run, differing
+from .journals import SOON, Entry, Part, Run, differing, part_of, parts_of
 from .mappers import names_in, one_of
 from .programs import PATIENCE
 from .serving import place_of
@@ -55,11 +55,12 @@ class Primitive(NamedTuple):
 
 
 class Upload(NamedTuple):
-    """An upload: its mark, the rows that it leaves with the room's names, the status and the text of the answer, and
-    the times at which it was sent and answered."""
+    """An upload: its mark, the rows that it leaves and those that the editor had before, with the room's names, the
+    status and the text of the answer, and the times at which it was sent and answered."""
 
     mark: str
     rows: dict[str, Any]
+    base: dict[str, Any]
     status: int
     text: str
     asked: float
@@ -150,6 +151,11 @@ class Change:
     def names(self) -> list[str]:
         """The names of all elements, in the order of the document."""
         return [row["el"] for row in (*self.created, *self.modified)] + self.deleted
+
+    def base(self) -> dict[str, Any]:
+        """The rows of its elements that the editor had before, with the room's names."""
+        names = [*(row["el"] for row in self.modified), *self.deleted]
+        return {room_name(name): room_row(self.before[name].row) for name in names}
 
     def rows(self, new: dict[str, str]) -> dict[str, Any]:
         """The rows that the upload leaves in the room."""
@@ -307,6 +313,7 @@ class EditorAuthor(ThreadedAuthor):
             return
         mark = f"{self.name} {next(self.numbers)}"
         change = self.change(mark)
+        base = change.base()
         self.last = document = change.document(changeset)
         asked = time.time()
         answer = self.api.upload(changeset, document, self.user)
@@ -320,7 +327,7 @@ class EditorAuthor(ThreadedAuthor):
             raise Broken(f"the upload is answered {answer.status} {answer.text}")
         else:
             self.data = {}  # so the next step downloads
-        self.uploads.append(Upload(mark, rows, answer.status, answer.text, asked, answered))
+        self.uploads.append(Upload(mark, rows, base, answer.status, answer.text, asked, answered))
 
     def change(self, mark: str) -> Change:
         """Changes some elements: always a new node with a mark, and others."""
@@ -425,6 +432,18 @@ class EditorAuthor(ThreadedAuthor):
         got = [entry.rows for entry in found if entry.rows == upload.rows] or [entry.rows for entry in found]
         if got or upload.answered < run.ended - SOON:  # otherwise perhaps nobody received its news
             self.check(f"the entry of the upload {upload.mark}", got[:1], [upload.rows])
+        for entry in found[:1]:
+            self.check(f"parts that the upload {upload.mark} overwrote unseen", self.overwritten(upload, entry), [])
+            self.compared.add((run.number, entry.seq))
+
+    @staticmethod
+    def overwritten(upload: Upload, entry: Entry) -> list[Part]:
+        """The parts that an upload changed, although they were not right before as its editor had them."""
+        return [
+            (name, word)
+            for name, word in parts_of(entry)
+            if name in upload.base and part_of(upload.base[name], word) != part_of(entry.before[name], word)
+        ]
 
     def check_refused(self, upload: Upload, rows: Mapping[str, Any]) -> None:
         """Checks that nothing is left of a refused upload, in whichever run it was sent."""

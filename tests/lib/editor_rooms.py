@@ -86,10 +86,13 @@ class GroupRoom(FakeRoom):
             return self.memory.redo_now(author), "redid"
         if message["do"] == "undo":
             return self.memory.take_back(author, message["seq"]), "undid"
+        since = message.get("since")
+        if since is not None and since < 0:
+            return Refusal("bad_field", {"field": "since"}), None
         if message.get("actions") == []:
             return Refusal("bad_field", {"field": "actions"}), None
-        actions = message.get("actions") or [{key: value for key, value in message.items() if key != "id"}]
-        return self.memory.group(author, actions), None
+        alone = {key: value for key, value in message.items() if key not in ("id", "since")}
+        return self.memory.group(author, message.get("actions") or [alone], since), None
 
     def start_anew(self, elements: Iterable[dict[str, Any]] | None = None) -> None:
         """Starts the server anew, with its map or with another map, and with an empty journal."""
@@ -245,13 +248,13 @@ class Place:
 
 @functools.lru_cache(maxsize=None)
 def program_has_groups() -> bool:
-    """Whether the program is built and knows groups. If it does not know them, it prints a line."""
+    """Whether the program is built, and knows groups and `since`. If it does not know them, this prints a line."""
     if not given.program:
         return False
     with serving(ROOM, workers=1, sessions=1) as server:
-        reply = server.session("keeper").ask({"id": 2, "do": "group", "actions": []})
-    if reply["no"]["why"] == "unknown_do":
-        print("the program answers unknown_do to a group: cases of uploads to it are skipped", flush=True)
+        reply = server.session("keeper").ask({"id": 2, "do": "group", "since": -1, "actions": []})
+    if reply["no"].get("field") != "since":
+        print(f"the program answers {reply['no']} to a group: cases of uploads to it are skipped", flush=True)
         return False
     return True
 

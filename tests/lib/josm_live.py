@@ -169,7 +169,8 @@ def place_of(element: str) -> tuple[int, int]:
 
 
 async def one_step(room: maproom.Room, chance: Random) -> None:
-    """A random change of the few elements on which all authors work."""
+    """A random change of the few elements on which all authors work, as the author sees them now."""
+    seen = room.seq
     names = sorted(room.elements, key=place_of)
     hot = {kind: [each for each in names if each[0] == kind][:HOT] for kind in "nwr"}
     every = [each for part in hot.values() for each in part]
@@ -181,20 +182,20 @@ async def one_step(room: maproom.Room, chance: Random) -> None:
     elif kind == "create" or len(hot["n"]) < 3 or not hot["w"]:
         await room.create_node(40 + chance.random() / 100, -30 + chance.random() / 100)
     elif kind == "move":
-        await room.move([chance.choice(hot["n"])], 0.0000100, 0.0000050)
+        await room.move([chance.choice(hot["n"])], 0.0000100, 0.0000050, since=seen)
     elif kind == "retag":
-        await room.retag(chance.choice(every), {f"k{chance.randrange(3)}": f"c{chance.randrange(3)}"})
+        await room.retag(chance.choice(every), {f"k{chance.randrange(3)}": f"c{chance.randrange(3)}"}, since=seen)
     elif kind == "way":
         await room.create_way(chance.sample(hot["n"], 3), {"highway": "path"})
     elif kind == "nodes":
         way = chance.choice(hot["w"])
         nodes = [*room.elements[way]["nodes"]]
         nodes.insert(1, int(chance.choice(hot["n"])[1:]))
-        await room.set_nodes(way, nodes)
+        await room.set_nodes(way, nodes, since=seen)
     elif kind == "purge":
-        await room.purge(chance.choice(every))
+        await room.purge(chance.choice(every), since=seen)
     else:
-        await room.split(chance.choice(hot["w"]), 1)
+        await room.split(chance.choice(hot["w"]), 1, since=seen)
 
 
 async def library_author(url: str, seed: int, steps: int) -> None:

@@ -25,14 +25,19 @@ SOON = 2
 # Rows by their names. None means that an element is gone.
 Rows = Mapping[str, Any]
 
+# A part of an element: its name, and `tags` or `rest`.
+Part = tuple[str, str]
+
 
 class Entry(NamedTuple):
-    """An entry: its number, its author, the changed elements (None if an element is gone), and those that are new."""
+    """An entry: its number, its author, the changed elements (None if an element is gone), those that are new, and the
+    elements in front of it."""
 
     seq: int
     by: str
     rows: Rows
     made: frozenset[str]
+    before: Rows
 
 
 class Run:
@@ -47,6 +52,9 @@ class Run:
         self.is_checked = False
         self.kept: dict[str, list[Entry]] = {author: [] for author in authors}
         self.authors: list[str] = []
+        # The parts that each entry changed, and the entries that changed each part.
+        self.parts: list[list[Part]] = []
+        self.changers: collections.defaultdict[Part, list[int]] = collections.defaultdict(list)
         # The last entries, the map in front of them, and the news that wait for earlier news.
         self.recent: collections.deque[Entry] = collections.deque()
         self.before = dict(rows)
@@ -65,16 +73,19 @@ class Run:
             if known and (known.by, known.rows) != (by, rows):
                 raise Broken(f"{who} got the news of entry {seq} of {by} {rows}, and another client {known}")
             if seq > self.entry_count:
-                self.waiting[seq] = Entry(seq, by, rows, frozenset())
+                self.waiting[seq] = Entry(seq, by, rows, frozenset(), {})
             while self.entry_count + 1 in self.waiting:
                 self.add(self.waiting.pop(self.entry_count + 1))
 
     def add(self, entry: Entry) -> None:
         """Adds the next entry."""
         made = frozenset(name for name, row in entry.rows.items() if row and name not in self.rows)
-        entry = entry._replace(made=made)
+        entry = entry._replace(made=made, before={name: self.rows.get(name) for name in entry.rows})
         bring_up(self.rows, entry)
         self.authors.append(entry.by)
+        self.parts.append(parts_of(entry))
+        for part in self.parts[-1]:
+            self.changers[part].append(entry.seq)
         self.recent.append(entry)
         if entry.by in self.kept:
             self.kept[entry.by].append(entry)
@@ -98,9 +109,37 @@ class Run:
                     bring_up(rows, entry)
             return rows
 
+    def overwritten(self, seq: int, since: int) -> list[tuple[Part, int]]:
+        """The parts that an entry changed although another author had changed them after `since`, each with that entry.
+        Entries of its own author count as seen."""
+        with self.lock:
+            return [
+                (part, other)
+                for part in self.parts[seq - 1]
+                for other in self.changers[part]
+                if since < other < seq and self.authors[other - 1] != self.authors[seq - 1]
+            ]
+
     def entries_of(self, author: str) -> set[int]:
         """The numbers of an author's entries."""
         return {seq for seq, by in enumerate(list(self.authors), 1) if by == author}
+
+
+def part_of(row: Mapping[str, Any] | None, word: str) -> object:
+    """A part of an element: its tags, or the rest. None if the element is not there."""
+    if row is None:
+        return None
+    return row["tags"] if word == "tags" else {key: value for key, value in row.items() if key != "tags"}
+
+
+def parts_of(entry: Entry) -> list[Part]:
+    """The parts that an entry changed: those that differ in front of it and after it."""
+    return [
+        (name, word)
+        for name, row in entry.rows.items()
+        for word in ("tags", "rest")
+        if part_of(row, word) != part_of(entry.before[name], word)
+    ]
 
 
 def bring_up(rows: dict[str, dict[str, Any]], entry: Entry) -> None:

@@ -48,6 +48,9 @@ AWAY, LATER = 3, 3
 OF_REDO = {"nothing_to_redo"}.union(*ACTIONS.values())
 OF_UNDO = {"conflict", "no_such", "not_yours", "not_standing", "nothing_to_undo"}
 
+# How often an edit says what its author had seen, and how many entries ago that was at most.
+GUARDED, OLD = 0.8, 200
+
 # How a change ends of which nobody knows whether it was done.
 UNKNOWN = (maproom.Unknown, maproom.NoAnswer, maproom.Closed)
 
@@ -156,7 +159,7 @@ class LibraryAuthor(Author):
 
     def accept(self, message: Message, answer: dict[str, int], asked: float, run: Run) -> None:
         """Notes a change that was sent in a run and accepted."""
-        self.record.accept(answer["seq"], asked)
+        self.record.accept(answer["seq"], asked, since=message.get("since"))
         if run is not self.run or self.is_late(answer["seq"], run):
             self.forget_undos()
         if self.undos is None:
@@ -230,26 +233,38 @@ class LibraryAuthor(Author):
         self.undos.active = dict.fromkeys(found.undos, "group")
         self.undos.undone = dict.fromkeys(found.redo, "group")
 
-    async def may_refuse(self, whys: Collection[str], asked: Awaitable[object]) -> None:
-        """Waits for a reply, which may be a refusal for some reasons."""
+    async def may_refuse(self, whys: Collection[str], asked: Awaitable[object], since: int | None = None) -> None:
+        """Waits for a reply, which may be a refusal for some reasons. After a number `since` it may also be that another
+        author changed the same after that entry."""
         try:
             await asked
+        except maproom.Changed as refusal:
+            self.steps["refused as changed"] += 1
+            if since is None or refusal.entry <= since or refusal.author == self.name:
+                raise
         except maproom.Refused as refusal:
             self.steps["refused"] += 1
             if refusal.why not in whys:
                 raise
 
+    def seen(self) -> int | None:
+        """The number of the map that the author sees now, or of an earlier one, as if the author had thought it over.
+        Sometimes the author does not say."""
+        age = self.chance.choice((0, 0, self.chance.randint(1, OLD)))
+        return max(0, self.client.seq - age) if self.chance.random() < GUARDED else None
+
     async def edit(self) -> None:
         """Makes an edit of any kind."""
-        message = self.mapper.edit(dict(self.client.elements))
-        self.last = message
-        await self.may_refuse(ACTIONS[message["do"]], self.called(message))
+        message, since = self.mapper.edit(dict(self.client.elements)), self.seen()
+        self.last = message, since
+        await self.may_refuse(ACTIONS[message["do"]], self.called(message, since), since)
 
     async def burst(self) -> None:
         """Makes several edits at once."""
         messages = [self.mapper.edit(dict(self.client.elements)) for _ in range(self.chance.randint(2, 5))]
-        self.last = messages
-        edits = (self.may_refuse(ACTIONS[message["do"]], self.called(message)) for message in messages)
+        since = self.seen()
+        self.last = messages, since
+        edits = (self.may_refuse(ACTIONS[each["do"]], self.called(each, since), since) for each in messages)
         outcomes = await asyncio.gather(*edits, return_exceptions=True)
         for outcome in outcomes:
             if isinstance(outcome, BaseException):
@@ -261,9 +276,10 @@ class LibraryAuthor(Author):
             messages = [self.mapper.edit(dict(self.client.elements)) for _ in range(self.chance.randint(1, 5))]
         else:
             messages = self.path()
-        self.last = messages
+        since = self.seen()
+        self.last = messages, since
         whys = {"nothing"}.union(*(ACTIONS[message["do"]] for message in messages))
-        await self.may_refuse(whys, self.client.group(messages))
+        await self.may_refuse(whys, self.client.group(messages, since=since), since)
 
     def path(self) -> list[dict[str, Any]]:
         """Actions that draw a way with its nodes."""
@@ -313,31 +329,31 @@ class LibraryAuthor(Author):
         if (seq, run) == (self.client.seq, self.run) and {row["el"]: row for row in rows} != self.client.elements:
             raise Broken(f"the map at entry {seq} is not that of the mirror")
 
-    async def called(self, message: Mapping[str, Any]) -> None:
+    async def called(self, message: Mapping[str, Any], since: int | None) -> None:
         """Makes an edit by the method that the library has for it. It mostly chooses the names of new elements."""
         client, word, rest = self.client, message["do"], {key: message[key] for key in message if key != "do"}
         el: str = rest.get("el", "")
-        chosen: dict[str, str] = {} if self.chance.random() < 0.8 else {"el": el}
-        into: dict[str, str] = {} if self.chance.random() < 0.8 else {"into": rest.get("into", "")}
+        chosen: dict[str, Any] = {} if self.chance.random() < 0.8 else {"el": el}
+        into: dict[str, Any] = {} if self.chance.random() < 0.8 else {"into": rest.get("into", "")}
         degrees: Callable[[str], Decimal] = lambda key: Decimal(rest[key]).scaleb(-7)
         create: dict[str, Callable[[], Awaitable[object]]] = {
-            "n": lambda: client.create_node(rest["lat"], rest["lon"], rest["tags"], **chosen),
-            "w": lambda: client.create_way(rest["nodes"], rest["tags"], **chosen),
-            "r": lambda: client.create_relation(rest["members"], rest["tags"], **chosen),
+            "n": lambda: client.create_node(rest["lat"], rest["lon"], rest["tags"], since=since, **chosen),
+            "w": lambda: client.create_way(rest["nodes"], rest["tags"], since=since, **chosen),
+            "r": lambda: client.create_relation(rest["members"], rest["tags"], since=since, **chosen),
         }
         calls: dict[str, Callable[[], Awaitable[object]]] = {
             "create": lambda: create[el[0]](),
-            "retag": lambda: client.retag(el, rest["tags"]),
-            "move": lambda: client.move(rest["els"], degrees("dlat"), degrees("dlon")),
-            "reverse": lambda: client.reverse(el),
-            "nodes": lambda: client.set_nodes(el, rest["nodes"]),
-            "members": lambda: client.set_members(el, rest["members"]),
-            "delete": lambda: client.delete(el),
-            "purge": lambda: client.purge(el),
-            "split": lambda: client.split(el, rest["at"], **into),
-            "join": lambda: client.join(el, rest["with"]),
-            "merge": lambda: client.merge(el, rest["with"]),
-            "unglue": lambda: client.unglue(el, rest["at"], **into),
+            "retag": lambda: client.retag(el, rest["tags"], since=since),
+            "move": lambda: client.move(rest["els"], degrees("dlat"), degrees("dlon"), since=since),
+            "reverse": lambda: client.reverse(el, since=since),
+            "nodes": lambda: client.set_nodes(el, rest["nodes"], since=since),
+            "members": lambda: client.set_members(el, rest["members"], since=since),
+            "delete": lambda: client.delete(el, since=since),
+            "purge": lambda: client.purge(el, since=since),
+            "split": lambda: client.split(el, rest["at"], since=since, **into),
+            "join": lambda: client.join(el, rest["with"], since=since),
+            "merge": lambda: client.merge(el, rest["with"], since=since),
+            "unglue": lambda: client.unglue(el, rest["at"], since=since, **into),
         }
         await calls[word]()
 

@@ -45,7 +45,7 @@ RECORDED = """(() => {
     const { ask } = room;
     room.ask = function (message, ...more) {
         const [asked, told] = [Date.now(), ask.call(this, message, ...more)];
-        const note = (about) => outcomes.push({ ...about, asked, answered: Date.now() });
+        const note = (about) => outcomes.push({ ...about, since: message.since ?? null, asked, answered: Date.now() });
         const isQuery = ["get", "map", "undos"].includes(message.do);
         if (!isQuery) told.then(({ seq }) => note({ seq }), ({ why }) => note({ why }));
         return told;
@@ -133,7 +133,7 @@ class PageAuthor(Author):
         for told in self.page.get("outcomes.splice(0)"):
             asked, answered = told["asked"] / 1000, told["answered"] / 1000
             if told.get("seq"):
-                self.record.accept(told["seq"], asked, answered)
+                self.record.accept(told["seq"], asked, answered, told["since"])
             elif told["why"] in ("unknown", "closed", "no_answer"):
                 self.record.lose(asked, answered)
 

@@ -106,7 +106,7 @@ class Asked:
 
     def names_an_entry(self) -> bool:
         """Whether the message has the number of an entry, which means nothing in another journal."""
-        return "seq" in self.message
+        return "seq" in self.message or "since" in self.message
 
 
 class Gap(NamedTuple):
@@ -118,7 +118,7 @@ class Gap(NamedTuple):
 
 
 class Settling(NamedTuple):
-    """An accepted change whose entry is not in the mirror yet."""
+    """An answer whose entry is not in the mirror yet: to an accepted change, or to one that is refused as `changed`."""
 
     seq: int
     asked: Asked
@@ -183,8 +183,8 @@ class Core:
     def add(
         self, message: Message, done: Callable[[Answer], None] = lambda answer: None, number: Optional[int] = None
     ) -> Asked:
-        """Adds a message that `send_more` sends. `done` gets {"ok": ..} or {"no": ..}; an accepted change is in the
-        mirror by then.
+        """Adds a message that `send_more` sends. `done` gets {"ok": ..} or {"no": ..}. By then the mirror has an
+        accepted change, and the entry that a refusal `changed` names.
 
         The core gives each message an id of its own, because an accepted change spends it. `number` is another id.
         """
@@ -313,13 +313,13 @@ class Core:
         if asked.times_sent > 1 and "no" in reply and reply["no"]["why"] == "repeat":
             reply = {"ok": {"seq": reply["no"]["seq"]}}
         answer = {key: reply[key] for key in ("ok", "no") if key in reply}
+        seq = entry_of(asked, answer)
         if "ok" in answer and asked.is_change():
-            seq = int(answer["ok"]["seq"])
             self.accepted = [asked.id, seq]
-            if seq > self.seq:
-                self.settling.append(Settling(seq, asked, answer))
-                return self.send_more()
-        asked.done(answer)
+        if seq > self.seq:
+            self.settling.append(Settling(seq, asked, answer))
+        else:
+            asked.done(answer)
         return self.send_more()
 
     def take_news(self, news: Any) -> List[str]:
@@ -344,7 +344,7 @@ class Core:
         return []
 
     def settle(self, seq: Optional[int] = None) -> None:
-        """Reports the accepted changes up to an entry, or all."""
+        """Reports the answers whose entries are in the mirror up to an entry, or all."""
         while self.settling and (seq is None or self.settling[0].seq <= seq):
             settled = self.settling.popleft()
             settled.asked.done(settled.answer)
@@ -355,6 +355,14 @@ class Core:
             number = int(name[1:])
             if LEAST_ID < number < self.lowest[name[0]]:
                 self.lowest[name[0]] = number
+
+
+def entry_of(asked: Asked, answer: Answer) -> int:
+    """The entry that the mirror needs before an answer is reported, or 0. After a refusal `changed` a caller looks at
+    the mirror again, and would find it unchanged before the news of that entry."""
+    if "no" in answer:
+        return int(answer["no"]["with"]) if answer["no"]["why"] == "changed" else 0
+    return int(answer["ok"]["seq"]) if asked.is_change() else 0
 
 
 def differences(before: Mapping[str, Element], after: Mapping[str, Element]) -> List[Row]:

@@ -62,8 +62,9 @@ class Refused(Error):
 
     def in_words(self) -> str:
         """The refusal as a sentence, if this package knows the reason."""
+        words = self.words if self.author else self.words.replace(" of {author}", "")
         try:
-            return self.words.format(**{"author": self.author, **self.no}) or self.members()
+            return words.format(**{"author": self.author, **self.no}) or self.members()
         except KeyError:
             return self.members()
 
@@ -157,10 +158,6 @@ class Conflict(Refused):
 
     words = "entry {with} of {author} also touched {at}: it has to be undone first"
 
-    def in_words(self) -> str:
-        text = super().in_words()
-        return text if self.author else text.replace(" of None", "")
-
 
 class NothingToRedo(Refused):
     words = "there is nothing to redo"
@@ -221,6 +218,23 @@ class Nothing(Refused):
     words = "the map would not change"
 
 
+class Changed(Refused):
+    """The message would change what the later `entry` of another author, `author`, changed at `element` after what the
+    message had seen (`since`). The mirror has that entry: look at it, and decide again."""
+
+    words = "entry {with} of {author} changed {el} since: look at it again"
+
+    @property
+    def element(self) -> str:
+        """The name of the least element of which both change the same part: its tags, or the rest."""
+        return str(self.no["el"])
+
+    @property
+    def entry(self) -> int:
+        """The number of the last such entry."""
+        return int(self.no["with"])
+
+
 class OutOfMemory(Refused):
     words = "the server is out of memory"
 
@@ -254,6 +268,7 @@ REASONS: Dict[str, Type[Refused]] = {
     "too_many": TooMany,
     "in_use": InUse,
     "nothing": Nothing,
+    "changed": Changed,
     "memory": OutOfMemory,
 }
 
@@ -272,6 +287,6 @@ def error_of(no: Mapping[str, Any], author: Optional[str] = None) -> Error:
 
 def short_words(error: Error) -> str:
     """A refusal as the command-line clients print it: its word, with what it is about."""
-    if not isinstance(error, Refused) or isinstance(error, (Conflict, InUse)):
+    if not isinstance(error, Refused) or isinstance(error, (Changed, Conflict, InUse)):
         return str(error)
     return error.place() + error.members()

@@ -269,7 +269,7 @@ class Room:
 
     @property
     def seq(self) -> int:
-        """The number of the last entry in the mirror."""
+        """The number of the last entry in `elements`: what you see now, for `since`."""
         return self._core.seq or 0
 
     @property
@@ -301,7 +301,8 @@ class Room:
         """Sends a message without its id, and returns what the answer has under `ok`.
 
         When the answer to a change is returned, `elements` has the change. Raises a Refused, Unknown, NotSent, Closed
-        or NoAnswer. If you cancel it, the message is not sent any more; if it was sent, it may be done.
+        or NoAnswer. When it raises Changed, `elements` has what the other author changed. If you cancel it, the message
+        is not sent any more; if it was sent, it may be done.
 
         `number` is the message's id, if the room should not choose one. `announce` gets the id before the message is
         sent. If it raises, the message is not sent.
@@ -342,16 +343,22 @@ class Room:
             return self._error
         return error_of(no, self._core.authors.get(no.get("with", 0)))
 
-    async def _change(self, message: Message) -> int:
-        """Asks for a change. Returns the number of its entry."""
-        return int((await self.ask(message))["seq"])
+    # Each action may have `since`: the number `seq` of the map on which you decided. If another author changed since
+    # then what the action would change, the room refuses it, and Changed is raised. A server before version 2.0.0 does
+    # not read `since`.
 
-    async def _create(self, kind: str, el: Optional[str], make: Callable[[str], Message]) -> str:
+    async def _change(self, message: Message, since: Optional[int]) -> int:
+        """Asks for a change. Returns the number of its entry."""
+        return int((await self.ask(guarded(message, since)))["seq"])
+
+    async def _create(
+        self, kind: str, el: Optional[str], make: Callable[[str], Message], since: Optional[int] = None
+    ) -> str:
         """Asks for a change that makes an element, under a name that is free."""
         for _ in range(TRIES):
             name = el or self._core.new_name(kind)
             try:
-                await self.ask(make(name))
+                await self.ask(guarded(make(name), since))
                 return name
             except Present as refusal:
                 if el or refusal.element != name:
@@ -359,78 +366,98 @@ class Room:
         raise Error(f"the names of {TRIES} new elements were taken")
 
     async def create_node(
-        self, lat: Degrees, lon: Degrees, tags: Optional[Tags] = None, *, el: Optional[str] = None
+        self,
+        lat: Degrees,
+        lon: Degrees,
+        tags: Optional[Tags] = None,
+        *,
+        el: Optional[str] = None,
+        since: Optional[int] = None,
     ) -> str:
         """Creates a node. Returns its name: a new one, unless you give `el`."""
-        return await self._create("n", el, lambda name: actions.create_node(name, lat, lon, tags))
+        return await self._create("n", el, lambda name: actions.create_node(name, lat, lon, tags), since)
 
     async def create_way(
-        self, nodes: Iterable[Union[int, str]], tags: Optional[Tags] = None, *, el: Optional[str] = None
+        self,
+        nodes: Iterable[Union[int, str]],
+        tags: Optional[Tags] = None,
+        *,
+        el: Optional[str] = None,
+        since: Optional[int] = None,
     ) -> str:
         """Creates a way of nodes, by their names or ids. Returns its name: a new one, unless you give `el`."""
         ids = actions.node_ids(nodes)
-        return await self._create("w", el, lambda name: actions.create_way(name, ids, tags))
+        return await self._create("w", el, lambda name: actions.create_way(name, ids, tags), since)
 
-    async def create_relation(self, members: Members, tags: Optional[Tags] = None, *, el: Optional[str] = None) -> str:
+    async def create_relation(
+        self,
+        members: Members,
+        tags: Optional[Tags] = None,
+        *,
+        el: Optional[str] = None,
+        since: Optional[int] = None,
+    ) -> str:
         """Creates a relation of members: pairs of a name and a role. Returns its name: a new one, unless you give
         `el`."""
         pairs: List[Tuple[str, str]] = [(name, role) for name, role in members]
-        return await self._create("r", el, lambda name: actions.create_relation(name, pairs, tags))
+        return await self._create("r", el, lambda name: actions.create_relation(name, pairs, tags), since)
 
-    async def retag(self, el: str, tags: Mapping[str, Optional[str]]) -> int:
+    async def retag(self, el: str, tags: Mapping[str, Optional[str]], *, since: Optional[int] = None) -> int:
         """Gives each key its value, and removes those whose value is None. Returns the entry's number."""
-        return await self._change(actions.retag(el, tags))
+        return await self._change(actions.retag(el, tags), since)
 
-    async def move(self, els: Union[str, Iterable[str]], dlat: Degrees, dlon: Degrees) -> int:
+    async def move(
+        self, els: Union[str, Iterable[str]], dlat: Degrees, dlon: Degrees, *, since: Optional[int] = None
+    ) -> int:
         """Moves nodes, and the nodes of ways, by `dlat` degrees to the north and `dlon` to the east."""
-        return await self._change(actions.move(els, dlat, dlon))
+        return await self._change(actions.move(els, dlat, dlon), since)
 
-    async def reverse(self, el: str) -> int:
+    async def reverse(self, el: str, *, since: Optional[int] = None) -> int:
         """Turns the list of a way round."""
-        return await self._change(actions.reverse(el))
+        return await self._change(actions.reverse(el), since)
 
-    async def set_nodes(self, el: str, nodes: Iterable[Union[int, str]]) -> int:
+    async def set_nodes(self, el: str, nodes: Iterable[Union[int, str]], *, since: Optional[int] = None) -> int:
         """Gives a way this list of nodes."""
-        return await self._change(actions.set_nodes(el, actions.node_ids(nodes)))
+        return await self._change(actions.set_nodes(el, actions.node_ids(nodes)), since)
 
-    async def set_members(self, el: str, members: Members) -> int:
+    async def set_members(self, el: str, members: Members, *, since: Optional[int] = None) -> int:
         """Gives a relation these members: pairs of a name and a role."""
-        return await self._change(actions.set_members(el, members))
+        return await self._change(actions.set_members(el, members), since)
 
-    async def delete(self, el: str) -> int:
+    async def delete(self, el: str, *, since: Optional[int] = None) -> int:
         """Deletes an element. Raises InUse if another refers to it."""
-        return await self._change(actions.delete(el))
+        return await self._change(actions.delete(el), since)
 
-    async def purge(self, el: str) -> int:
+    async def purge(self, el: str, *, since: Optional[int] = None) -> int:
         """Deletes an element with every reference to it."""
-        return await self._change(actions.purge(el))
+        return await self._change(actions.purge(el), since)
 
-    async def split(self, el: str, at: int, *, into: Optional[str] = None) -> str:
+    async def split(self, el: str, at: int, *, into: Optional[str] = None, since: Optional[int] = None) -> str:
         """Splits a way at a position of its list. Returns the name of the new way: a new one, unless you give
         `into`."""
-        return await self._create("w", into, lambda name: actions.split(el, at, name))
+        return await self._create("w", into, lambda name: actions.split(el, at, name), since)
 
-    async def join(self, el: str, other: str) -> int:
+    async def join(self, el: str, other: str, *, since: Optional[int] = None) -> int:
         """Joins a way with another, which begins where it ends and then goes."""
-        return await self._change(actions.join(el, other))
+        return await self._change(actions.join(el, other), since)
 
-    async def merge(self, el: str, other: str) -> int:
+    async def merge(self, el: str, other: str, *, since: Optional[int] = None) -> int:
         """Merges a node with another, which then goes."""
-        return await self._change(actions.merge(el, other))
+        return await self._change(actions.merge(el, other), since)
 
-    async def unglue(self, el: str, at: int, *, into: Optional[str] = None) -> str:
+    async def unglue(self, el: str, at: int, *, into: Optional[str] = None, since: Optional[int] = None) -> str:
         """Gives a way a new node at a position of its list. Returns the node's name: a new one, unless you give
         `into`."""
-        return await self._create("n", into, lambda name: actions.unglue(el, at, name))
+        return await self._create("n", into, lambda name: actions.unglue(el, at, name), since)
 
-    async def group(self, steps: Iterable[Message]) -> int:
+    async def group(self, steps: Iterable[Message], *, since: Optional[int] = None) -> int:
         """Does several actions as one entry, or none of them. Returns the entry's number.
 
         `maproom.actions` has a function for each action, and `new_name` gives names for new elements. If the room
         refuses an action, a Refused with its position `action` is raised, and nothing was done. An undo takes all of
         them back. A server before version 1.1.0 raises UnknownDo.
         """
-        return await self._change(actions.group(steps))
+        return await self._change(actions.group(steps), since)
 
     def new_name(self, kind: str) -> str:
         """A name for a new element of a kind, "n", "w" or "r". The room gives it out once, and `elements` does not
@@ -474,6 +501,11 @@ class Room:
         """The entries that you can undo and redo."""
         reply = await self.ask(actions.undos())
         return Undos(reply["undos"], reply["redo"])
+
+
+def guarded(message: Message, since: Optional[int]) -> Message:
+    """A message whose author had seen the room up to an entry."""
+    return message if since is None else {**message, "since": since}
 
 
 class Changes(AsyncIterator[Event]):

@@ -393,10 +393,12 @@ async def a_server_restarts_during_an_upload() -> None:
         room = MemoryRoom([node("n1")])
         bridge, send = Bridge(room), room.send_group
 
-        async def send_and_restart(author: str, actions: list[Any], announce: Callable[..., Any]) -> Any:
+        async def send_and_restart(
+            author: str, actions: list[Any], announce: Callable[..., Any], since: int | None
+        ) -> Any:
             put_in(room, send_group=send)
             saved = dict(room.elements)
-            answer = await send(author, actions, announce)
+            answer = await send(author, actions, announce, since)
             room.restart(None if is_saved else saved | others)
             return answer if is_answered else Refusal("unknown")
 
@@ -424,9 +426,11 @@ async def a_restarted_server_stays_away() -> None:
         bridge, send, catch_up = Bridge(room, seconds=0.1), room.send_group, room.catch_up
         changeset = await bridge.open()
 
-        async def send_and_restart(author: str, actions: list[Any], announce: Callable[..., Any]) -> Any:
+        async def send_and_restart(
+            author: str, actions: list[Any], announce: Callable[..., Any], since: int | None
+        ) -> Any:
             saved = dict(room.elements)
-            await send(author, actions, announce)
+            await send(author, actions, announce, since)
             room.restart(None if is_saved else saved)
             put_in(room, send_group=send, catch_up=asyncio.Event().wait)
             return Refusal("unknown")
@@ -452,8 +456,8 @@ async def a_restart_after_changes_alone() -> None:
     room = MemoryRoom([node("n1")])
     bridge, send = Bridge(room), room.send_group
 
-    async def send_and_restart(author: str, actions: list[Any], announce: Callable[..., Any]) -> Any:
-        await send(author, actions, announce)
+    async def send_and_restart(author: str, actions: list[Any], announce: Callable[..., Any], since: int | None) -> Any:
+        await send(author, actions, announce, since)
         room.restart()
         return Refusal("unknown")
 
@@ -472,9 +476,9 @@ async def a_restart_hides_nothing() -> None:
     room = MemoryRoom([node("n1")])
     bridge, send = Bridge(room), room.send_group
 
-    async def send_and_restart(author: str, actions: list[Any], announce: Callable[..., Any]) -> Any:
+    async def send_and_restart(author: str, actions: list[Any], announce: Callable[..., Any], since: int | None) -> Any:
         put_in(room, send_group=send)
-        await send(author, actions, announce)
+        await send(author, actions, announce, since)
         room.restart({**room.elements, "n1": node("n1", 9)})
         return Refusal("unknown")
 
@@ -629,10 +633,12 @@ async def an_upload_that_was_not_sent_is_dropped() -> None:
     room = MemoryRoom([node("n1")])
     bridge, send = Bridge(room, seconds=0.1), room.send_group
 
-    async def waits_for_a_session(author: str, actions: list[dict[str, Any]], announce: Callable[..., Any]) -> Answer:
+    async def waits_for_a_session(
+        author: str, actions: list[dict[str, Any]], announce: Callable[..., Any], since: int | None
+    ) -> Answer:
         if author == "lina":
             await asyncio.sleep(0.2)
-        return await send(author, actions, announce)
+        return await send(author, actions, announce, since)
 
     put_in(room, send_group=waits_for_a_session)
     want((await bridge.upload(await bridge.open(), modified("n1", 3)))[0], 503)

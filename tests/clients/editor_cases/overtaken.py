@@ -362,14 +362,20 @@ async def undo_before_a_refused_one() -> None:
 
 @in_a_loop
 async def a_repair_is_overtaken() -> None:
-    """If another changes a detail that a repair writes, the repair is undone and made anew, and that detail stays the
-    other's. A change of another detail is in nobody's way."""
-    details: list[tuple[dict[str, Any], dict[str, Any], int]]
-    details = [({"a": "7"}, {"a": "7"}, 7), ({"b": "7"}, {"a": "1", "b": "7"}, 5)]
-    for tags, wanted, entries in details:
+    """If another changes a detail that a repair writes, that detail stays the other's: the room refuses the repair, and
+    it is made anew. If another program of the author does it, the repair is undone and made anew. A change of another
+    detail is in nobody's way."""
+    details: list[tuple[str, dict[str, Any], dict[str, Any], int]]
+    details = [
+        ("carl", {"a": "7"}, {"a": "7"}, 5),
+        ("lina", {"a": "7"}, {"a": "7"}, 7),
+        ("carl", {"b": "7"}, {"a": "1", "b": "7"}, 5),
+        ("lina", {"b": "7"}, {"a": "1", "b": "7"}, 5),
+    ]
+    for author, tags, wanted, entries in details:
         room = MemoryRoom([node("n1"), node("n2", a="1")])
         bridge = Bridge(room)
-        answer = await repaired_with(room, bridge, lambda: taken(room.group("carl", [retags("n2", **tags)])))
+        answer = await repaired_with(room, bridge, lambda: taken(room.group(author, [retags("n2", **tags)])))
         want(answer, (409, MISMATCH.format(NOW_VERSION, NOW_VERSION + 3)))
         want((room.elements, room.seq), (by_name([node("n1", 3.0000001, name="Tor"), node("n2", **wanted)]), entries))
         await left_nothing(bridge)
@@ -379,42 +385,45 @@ async def a_repair_is_overtaken() -> None:
 async def a_deletion_is_overtaken() -> None:
     """If another changes a created element right in front of the repair that deletes it, the element stays, and the
     answer says so."""
-    room = MemoryRoom([node("n1")])
-    bridge = Bridge(room)
-    answer = await repaired_with(
-        room,
-        bridge,
-        lambda: taken(room.group("carl", [retags("n-1", b="7")])),
-        document=step("modify", node("n1", 3)) + step("create", node("n-1", 5)),
-    )
-    want(answer, (409, STAYS.format(BLOCKED, f"node {10**15 + 1}")))
-    want((room.elements, room.seq), (by_name([node("n1", 3.0000001, name="Tor"), node("n-1", 5, b="7")]), 6))
-    want(await bridge.ask("POST", "undo"), (409, f"The upload cannot be undone: {BLOCKED}"))
+    for author, entries in (("carl", 4), ("lina", 6)):  # another program of the author is not refused
+        room = MemoryRoom([node("n1")])
+        bridge = Bridge(room)
+        answer = await repaired_with(
+            room,
+            bridge,
+            lambda: taken(room.group(author, [retags("n-1", b="7")])),
+            document=step("modify", node("n1", 3)) + step("create", node("n-1", 5)),
+        )
+        want(answer, (409, STAYS.format(BLOCKED, f"node {10**15 + 1}")))
+        want((room.elements, room.seq), (by_name([node("n1", 3.0000001, name="Tor"), node("n-1", 5, b="7")]), entries))
+        want(await bridge.ask("POST", "undo"), (409, f"The upload cannot be undone: {BLOCKED}"))
 
 
 @in_a_loop
 async def a_repair_cannot_be_undone_either() -> None:
-    """If a repair is overtaken, and its undo is refused as well, the repair is repaired by the same rule. If the room
-    then refuses to repair the upload, a part of it stays."""
+    """If another program of the author overtakes a repair, and its undo is refused as well, the repair is repaired by
+    the same rule. If the room then refuses to repair the upload, a part of it stays."""
     for is_without_memory in (False, True):
         room = MemoryRoom([node("n1"), node("n2", a="1")])
         bridge, send = Bridge(room), room.send_group
 
-        async def without_memory(author: str, actions: list[Any], announce: Callable[..., Any]) -> Any:
+        async def without_memory(
+            author: str, actions: list[Any], announce: Callable[..., Any], since: int | None
+        ) -> Any:
             if is_without_memory and len(room.groups) == 3:
                 return Refusal("memory", {"action": 0})
-            return await send(author, actions, announce)
+            return await send(author, actions, announce, since)
 
         async def dora_goes_on() -> None:
             room.after_group = None
             taken(room.group("dora", [retags("n2", b="9")]))
 
-        def carl_is_quicker() -> None:
-            taken(room.group("carl", [retags("n2", a="7")]))
+        def lina_is_quicker() -> None:
+            taken(room.group("lina", [retags("n2", a="7")]))
             room.after_group = dora_goes_on
 
         put_in(room, send_group=without_memory)
-        answer = await repaired_with(room, bridge, carl_is_quicker)
+        answer = await repaired_with(room, bridge, lina_is_quicker)
         n2 = node("n2", 3 if is_without_memory else 1, a="7", b="9")
         want(room.elements, by_name([node("n1", 3.0000001, name="Tor"), n2]))
         if is_without_memory:
@@ -453,7 +462,8 @@ async def repairs_end() -> None:
         taken(room.group("carl", [moves("n2", -1), retags("n2", b=str(next(numbers)))]))
 
     answer = await repaired_with(room, bridge, *20 * [carl_is_quicker])
-    want(answer, (409, STAYS.format(BLOCKED, "node 2")))
+    last = f"entry {3 + 2 * taking_back.MOST_REPAIRS} of carl changed n2 just before it"
+    want(answer, (409, STAYS.format(last, "node 2")))
     want((len(room.groups), room.elements["n2"]), (1 + taking_back.MOST_REPAIRS, node("n2", 3, a="5", b="5")))
     want(await bridge.ask("POST", "undo"), (409, f"The upload cannot be undone: {BLOCKED}"))
     room.before_group = None
@@ -483,11 +493,13 @@ async def a_repair_is_refused() -> None:
         room = MemoryRoom(rows)
         bridge, send, left = Bridge(room), room.send_group, [count]
 
-        async def without_memory(author: str, actions: list[Any], announce: Callable[..., Any]) -> Any:
+        async def without_memory(
+            author: str, actions: list[Any], announce: Callable[..., Any], since: int | None
+        ) -> Any:
             if room.groups and left[0]:
                 left[0] -= 1
                 return Refusal("memory", {"action": 0})
-            return await send(author, actions, announce)
+            return await send(author, actions, announce, since)
 
         put_in(room, send_group=without_memory)
         answer = await repaired_with(room, bridge)

@@ -86,23 +86,25 @@ def version_told(bridge: Bridge, name: str, lat: int) -> str:
 
 @in_a_loop
 async def two_programs_take_back() -> None:
-    """If a later upload blocks the undo of an overtaken one, and is overtaken itself, the one undo waits for the
-    other."""
+    """If a later upload by another program of the author blocks the undo of an overtaken one, and is overtaken itself,
+    the one undo waits for the other."""
     room = MemoryRoom([node("n1"), node("n2")])
-    lina, mika = Bridge(room), Bridge(room, author="mika")
-    send, undo, is_there, changeset = room.send_group, room.undo, asyncio.Event(), await mika.open()
+    lina, again = Bridge(room), Bridge(room)
+    send, undo, is_there, changeset = room.send_group, room.undo, asyncio.Event(), await again.open()
 
-    async def send_together(author: str, actions: list[dict[str, Any]], announce: Callable[..., Any]) -> Answer:
-        if author == "mika":
+    async def send_together(
+        author: str, actions: list[dict[str, Any]], announce: Callable[..., Any], since: int | None
+    ) -> Answer:
+        if actions[0]["els"] == ["n2"]:
             await is_there.wait()
-            return await send(author, actions, announce)
-        answer = await send(author, actions, announce)
+            return await send(author, actions, announce, since)
+        answer = await send(author, actions, announce, since)
         is_there.set()
         await until(lambda: room.seq == 3)
         return answer
 
     async def undo_in_order(author: str, seq: int) -> Accepted | Refusal:
-        if author == "mika":
+        if seq == 3:
             await until(lambda: len(lina.notes) == 2)
         elif len(lina.notes) == 2:
             await asyncio.wait({second})
@@ -110,15 +112,15 @@ async def two_programs_take_back() -> None:
 
     put_in(room, send_group=send_together, undo=undo_in_order)
     with Times(30, 30):
-        second = asyncio.create_task(mika.upload(changeset, modified("n2", 4)))
+        second = asyncio.create_task(again.upload(changeset, modified("n2", 4)))
         await asyncio.sleep(0.01)
         want(await overtaken(lina, MOVES, TOR), (409, MISMATCH.format(NOW_VERSION, NOW_VERSION + 3)))
         want(await second, (409, MISMATCH.replace("Node 1", "Node 2").format(NOW_VERSION, NOW_VERSION + 3)))
-    want((len(lina.notes), lina.notes[1]), (2, NOT_UNDONE.format(2, "lina", "entry 3 of mika changed n2")))
-    want(list(room.authors.values()), ["bob", "lina", "mika", "mika", "lina"])
+    want((len(lina.notes), lina.notes[1]), (2, NOT_UNDONE.format(2, "lina", "entry 3 of lina changed n2")))
+    want(list(room.authors.values()), ["bob", *4 * ["lina"]])
     want(room.elements, by_name([node("n1", name="Tor"), node("n2")]))
     await left_nothing(lina)
-    await left_nothing(mika)
+    await left_nothing(again)
 
 
 @in_a_loop
@@ -197,7 +199,8 @@ async def an_upload_waits_for_what_it_refers_to() -> None:
 @in_a_loop
 async def an_upload_does_not_wait_for_long() -> None:
     """An upload goes on when the other's entry is old enough, or when its author did something else. It does not wait
-    for an entry in front of which nobody else changed its elements, or for one of the program itself."""
+    for an entry in front of which nobody else changed its elements, or others changed the same part, which the author
+    had seen; and not for one of the program itself."""
 
     async def uploads_after(settling: float, *entries: Any) -> Any:
         room = MemoryRoom([node("n1"), node("n2")])
@@ -213,11 +216,12 @@ async def an_upload_does_not_wait_for_long() -> None:
             want((await bridge.upload(changeset, version_told(bridge, "n1", 4)))[0], 200)
             return time.monotonic() - began
 
-    both = ("carl", [moves("n1")]), ("bob", [moves("n1")])
+    both = ("carl", TOR), ("bob", [moves("n1")])
     want(0.2 < await uploads_after(0.3, *both) < 5 * given.slow, True)
     for entries in (
         (*both, ("bob", [moves("n2")])),
-        (("bob", [moves("n1")]), ("bob", [moves("n1")])),
+        (("bob", TOR), ("bob", [moves("n1")])),
+        (("carl", [moves("n1")]), ("bob", [moves("n1")])),
         (("carl", [moves("n2")]), ("bob", [moves("n1")])),
         (*both, ("zoe", None)),
         both[:1],
@@ -265,8 +269,8 @@ async def an_upload_waits_until_another_goes_on() -> None:
     bridge = Bridge(room)
     changeset = await bridge.open()
     with Times(30):
-        for author in ("carl", "bob"):
-            taken(room.group(author, [moves("n1")]))
+        taken(room.group("carl", TOR))
+        taken(room.group("bob", [moves("n1")]))
         uploading = asyncio.create_task(bridge.upload(changeset, version_told(bridge, "n1", 4)))
         for author in ("carl", "dora"):
             await asyncio.sleep(0.02)
@@ -360,11 +364,15 @@ class Line:
         self.tell()
 
     async def send_group(
-        self, author: str, actions: list[dict[str, Any] | dict[str, Any]], announce: Callable[..., Any]
+        self,
+        author: str,
+        actions: list[dict[str, Any] | dict[str, Any]],
+        announce: Callable[..., Any],
+        since: int | None,
     ) -> Accepted | Refusal:
         """Sends a group a little late, and gives the answer."""
         await self.pause(4)
-        answer = await self.memory.send_group(author, actions, announce)
+        answer = await self.memory.send_group(author, actions, announce, since)
         await self.pause()
         return answer
 

@@ -169,7 +169,7 @@ public final class RandomMapper {
 
         @Override
         public void warn(String text) {
-            count("warning: " + text.replaceAll("^.*(was refused: |was taken back: |anew)", "$1")
+            count("warning: " + text.replaceAll("^.*(was refused: |anew)", "$1")
                     .replaceAll("\\. (anna|bob|carl) changed .*", ".")
                     .replaceAll("(node|way|relation) -?[0-9]+( \\([^)]*\\))?", "$1")
                     .replaceAll("entry [0-9]+", "entry"));

@@ -207,6 +207,44 @@ const stories = {
     room.close();
   },
 
+  async guards(url) {
+    const room = await connect(url);
+    const bob = await connect(url, { name: "bob" });
+    await room.createNode(1, 2, {}, { el: "n-1" });
+    const calls = [
+      (how) => room.createNode(1, 2, {}, how), (how) => room.createWay(["n-1", "n-1"], {}, how),
+      (how) => room.createRelation([], {}, how), (how) => room.retag("n-1", { a: "1" }, how),
+      (how) => room.move("n-1", 1, 1, how), (how) => room.reverse("w-1", how), (how) => room.setNodes("w-1", [], how),
+      (how) => room.setMembers("r-1", [], how), (how) => room.delete("n-1", how), (how) => room.purge("n-1", how),
+      (how) => room.split("w-1", 1, how), (how) => room.join("w-1", "w-2", how),
+      (how) => room.merge("n-1", "n-2", how), (how) => room.unglue("w-1", 1, how),
+      (how) => room.group([make.delete("n-1")], how),
+    ];
+    for (const call of calls) await sayOutcome(call({ since: 99 }));
+    await sayOutcome(room.retag("n-1", { a: "1" }, { since: room.seq }));
+    for (const change of [
+      (since) => bob.retag("n-1", { a: "2" }, { since }),
+      (since) => bob.group([make.retag("n-1", { a: "3" })], { since }),
+    ]) {
+      await change(1).catch((error) => {
+        if (!(error instanceof maproom.Changed)) throw error;
+        say(error.element, error.entry, error.author, error.action ?? "None", error.message);
+      });
+      say(JSON.stringify(bob.elements.get("n-1").tags));
+      await sayOutcome(change(bob.seq));
+      await room.retag("n-1", { a: "1" });
+    }
+    bob.close();
+    room.close();
+  },
+
+  async guards_lost(url) {
+    const room = await connect(url);
+    await sayOutcome(room.createNode(1, "2", {}, { el: "n-1" }));
+    await sayOutcome(room.move("n1", "0.000001", 0, { since: room.seq }));
+    room.close();
+  },
+
   words() {
     for (const line of require("node:fs").readFileSync(0, "utf8").split("\n").slice(0, -1)) {
       const error = errorOf(JSON.parse(line), "bob");

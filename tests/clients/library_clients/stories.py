@@ -7,7 +7,7 @@ import sys
 import time
 
 import maproom
-from collections.abc import Coroutine
+from collections.abc import Callable, Coroutine
 from typing import Any
 from maproom.core import compact
 from maproom.errors import error_of, short_words
@@ -259,6 +259,51 @@ async def possible(url: str) -> None:
         await bob.undo()
         await say_outcome(room.undo_last_possible())
         say_map(room)
+
+
+async def guards(url: str) -> None:
+    """Each method passes `since` on. A change of what somebody changed since is refused when the mirror has that."""
+    async with connect(url) as room, maproom.connect(url, room="paris", name="bob") as bob:
+        await room.create_node(1, 2, el="n-1")
+        calls: list[Callable[[int], Coroutine[Any, Any, Any]]] = [
+            lambda since: room.create_node(1, 2, since=since),
+            lambda since: room.create_way(["n-1", "n-1"], since=since),
+            lambda since: room.create_relation([], since=since),
+            lambda since: room.retag("n-1", {"a": "1"}, since=since),
+            lambda since: room.move("n-1", 1, 1, since=since),
+            lambda since: room.reverse("w-1", since=since),
+            lambda since: room.set_nodes("w-1", [], since=since),
+            lambda since: room.set_members("r-1", [], since=since),
+            lambda since: room.delete("n-1", since=since),
+            lambda since: room.purge("n-1", since=since),
+            lambda since: room.split("w-1", 1, since=since),
+            lambda since: room.join("w-1", "w-2", since=since),
+            lambda since: room.merge("n-1", "n-2", since=since),
+            lambda since: room.unglue("w-1", 1, since=since),
+            lambda since: room.group([maproom.actions.delete("n-1")], since=since),
+        ]
+        for call in calls:
+            await say_outcome(call(99))
+        await say_outcome(room.retag("n-1", {"a": "1"}, since=room.seq))
+        changes: list[Callable[[int], Coroutine[Any, Any, Any]]] = [
+            lambda since: bob.retag("n-1", {"a": "2"}, since=since),
+            lambda since: bob.group([maproom.actions.retag("n-1", {"a": "3"})], since=since),
+        ]
+        for change in changes:
+            try:
+                await change(1)
+            except maproom.Changed as error:
+                say(error.element, error.entry, error.author, error.action, error)
+            say(compact(bob.elements["n-1"]["tags"]))
+            await say_outcome(change(bob.seq))
+            await room.retag("n-1", {"a": "1"})
+
+
+async def guards_lost(url: str) -> None:
+    """The connection breaks after a move that has a number."""
+    async with connect(url) as room:
+        await say_outcome(room.create_node(1, "2", el="n-1"))
+        await say_outcome(room.move("n1", "0.000001", 0, since=room.seq))
 
 
 async def words(_: str) -> None:

@@ -22,6 +22,7 @@ WORDS = {
     "absent": "{el} is not in the room",
     "present": "{el} is in the room already",
     "in_use": "{by} refers to {el}",
+    "no_such": "the server was restarted before the message was sent",
     "out_of_range": "{el} would leave the range of latitudes or longitudes",
     "nothing_to_redo": "there is nothing to redo",
     "memory": "the server is out of memory",
@@ -69,11 +70,11 @@ class Refusal:
 
     def in_words(self, authors: Mapping[int, str]) -> str:
         """Returns what the refusal says, with the name of the author that is in the way."""
-        if self.why in ("conflict", OVERTAKEN):
+        if self.why in ("conflict", "changed", OVERTAKEN):
             entry, author = self.fields.get("with", 0), authors.get(self.fields.get("with", 0))
             whose = f"entry {entry} of {author}" if author else f"entry {entry}"
             when = "since, and has to be undone first" if self.why == "conflict" else "just before it"
-            return f"{whose} changed {self.fields.get('at')} {when}"
+            return f"{whose} changed {self.fields.get('at') or self.fields.get('el')} {when}"
         fields = {key: value for key, value in self.fields.items() if key != "action"}
         try:
             return WORDS[self.why].format_map(fields)
@@ -138,9 +139,12 @@ class RoomConnection(Protocol):
     async def join(self, author: str) -> None:
         """Waits until an author has a session, which then stays open for a while."""
 
-    async def send_group(self, author: str, actions: Sequence[Action], announce: Callable[[int], None]) -> Answer:
+    async def send_group(
+        self, author: str, actions: Sequence[Action], announce: Callable[[int], None], since: int | None = None
+    ) -> Answer:
         """Sends actions as one message, which the room accepts or refuses as a whole. Calls `announce` with the
-        message's id before it is sent."""
+        message's id before it is sent. If another author changed after the entry `since` what the actions would change,
+        the room refuses them as `changed`."""
 
     async def undo(self, author: str, seq: int) -> Answer:
         """Undoes an entry of an author."""

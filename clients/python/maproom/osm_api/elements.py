@@ -18,6 +18,12 @@ MOST_DIGITS = 40
 
 GONE_DIGEST = "gone"
 
+# The parts of an element, of which the room compares each alone, and their sets.
+TAGS, REST = "tags", "rest"
+ALL_PARTS = frozenset({TAGS, REST})
+TAGS_ALONE, REST_ALONE = frozenset({TAGS}), frozenset({REST})
+NO_PARTS: frozenset[str] = frozenset()
+
 # Made once, because `json.dumps` would make an encoder for each element of a map.
 ENCODER = json.JSONEncoder(ensure_ascii=False, separators=(",", ":"))
 
@@ -77,6 +83,21 @@ def digest(row: Row | None) -> str:
 def is_same(row: Row | None, other: Row | None) -> bool:
     """Returns whether two rows have the same content."""
     return digest(row) == digest(other)
+
+
+def changed_parts(before: Row | None, after: Row | None) -> frozenset[str]:
+    """Returns the parts in which two rows of an element differ."""
+    if before is None or after is None:
+        return NO_PARTS if before is after else ALL_PARTS
+    has_new_tags, has_new_rest = before["tags"] != after["tags"], rest_of(before) != rest_of(after)
+    if has_new_tags:
+        return ALL_PARTS if has_new_rest else TAGS_ALONE
+    return REST_ALONE if has_new_rest else NO_PARTS
+
+
+def rest_of(row: Row) -> tuple[object, ...]:
+    """Returns the position or the list of a row."""
+    return row.get("lat"), row.get("lon"), row.get("nodes"), row.get("members")
 
 
 def sayable(text: str) -> str:

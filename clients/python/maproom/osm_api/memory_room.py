@@ -2,7 +2,8 @@
 
 It does what the API needs: groups of creates, retags, moves, nodes, members and deletes, undo and redo. As in a room,
 an undo is blocked by a later change of the same part of an element: its tags or the rest. Here a group has changed what
-differs in the end, while a room also counts what a group changes and changes back."""
+differs in the end, while a room also counts what a group changes and changes back, when it undoes. A group is refused
+as `changed` if another author changed one of its parts since an entry."""
 import asyncio
 import collections
 import copy
@@ -10,12 +11,22 @@ from collections.abc import Awaitable, Callable, Mapping, Sequence
 from dataclasses import dataclass
 
 from .connection import Accepted, Action, Answer, Listener, News, Refusal, RoomConnection, Welcome
-from .elements import Row, Rows, coordinate_text, is_in_world, is_same, references, text_units
+from .elements import (
+    REST,
+    TAGS,
+    Row,
+    Rows,
+    changed_parts,
+    coordinate_text,
+    is_in_world,
+    is_same,
+    references,
+    text_units,
+)
 from .ids import KIND_ORDER
 
 # A part of an element: its name, and which part.
 Part = tuple[str, str]
-TAGS, REST = "tags", "rest"
 
 
 class Refused(Exception):
@@ -100,7 +111,11 @@ class MemoryRoom:
             await self.before_join(author)
 
     async def send_group(
-        self, author: str, actions: Sequence[Action], announce: Callable[[int], None] = lambda message: None
+        self,
+        author: str,
+        actions: Sequence[Action],
+        announce: Callable[[int], None] = lambda message: None,
+        since: int | None = None,
     ) -> Answer:
         """Does all actions or none."""
         self._last_message += 1
@@ -109,7 +124,7 @@ class MemoryRoom:
         self.groups.append(copy.deepcopy(list(actions)))
         if self.before_group:
             await self.before_group()
-        answer = self.group(author, actions)
+        answer = self.group(author, actions, since)
         if isinstance(answer, Accepted):
             self._spent[author, message] = answer.seq
         if self.after_group:
@@ -167,10 +182,12 @@ class MemoryRoom:
 
     # entries
 
-    def group(self, author: str, actions: Sequence[Action]) -> Answer:
+    def group(self, author: str, actions: Sequence[Action], since: int | None = None) -> Answer:
         """Does all actions at once, or none."""
         if len(self.journal) >= self.limit:
             return Refusal("full")
+        if since is not None and since > self.seq:
+            return Refusal("no_such")
         draft: dict[str, Row | None] = {}
         for at, action in enumerate(actions):
             try:
@@ -179,8 +196,23 @@ class MemoryRoom:
                 return Refusal(fault.refusal.why, {"action": at, **fault.refusal.fields})
         if all(is_same(row, self.elements.get(name)) for name, row in draft.items()):
             return Refusal("nothing")
+        changed_since = None if since is None else self._changed_since(author, draft, since)
+        if changed_since:
+            return changed_since
         self._redo.pop(author, None)
         return Accepted(self._enter(author, draft, True))
+
+    def _changed_since(self, author: str, draft: Rows, since: int) -> Refusal | None:
+        """Returns the refusal if another author changed a part of a draft after an entry."""
+        parts = {(name, part) for name, row in draft.items() for part in changed_parts(self.elements.get(name), row)}
+        for entry in reversed(self.journal[since:]):
+            changes = (
+                (name, part) for name in entry.after for part in changed_parts(entry.before[name], entry.after[name])
+            )
+            both = parts.intersection(changes)
+            if both and entry.author != author:
+                return Refusal("changed", {"el": min((name for name, _ in both), key=place_of), "with": entry.seq})
+        return None
 
     def take_back(self, author: str, seq: int) -> Answer:
         """Undoes an entry, unless a later active entry changed a part of an element that it changed."""
@@ -297,19 +329,6 @@ class MemoryRoom:
 def place_of(name: str) -> tuple[int, int]:
     """Sorts names as a room does."""
     return KIND_ORDER[name[0]], int(name[1:])
-
-
-def changed_parts(before: Row | None, after: Row | None) -> set[str]:
-    """Returns the parts in which two rows of an element differ."""
-    if before is None or after is None:
-        return {TAGS, REST}
-    found = {TAGS} if before["tags"] != after["tags"] else set()
-    return found | {REST} if rest_of(before) != rest_of(after) else found
-
-
-def rest_of(row: Row) -> tuple[object, ...]:
-    """Returns the position or the list of a row."""
-    return row.get("lat"), row.get("lon"), row.get("nodes"), row.get("members")
 
 
 def changed(before: Row, action: Action) -> Row:

@@ -25,7 +25,7 @@ Statuses:
   2  the arguments are wrong
 
 It needs Python 3.11, aiohttp and defusedxml (Debian: python3-aiohttp and python3-defusedxml), and a server of version
-1.1.0 or later.
+2.0.0 or later.
 """
 import argparse
 import asyncio

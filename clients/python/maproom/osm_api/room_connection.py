@@ -26,7 +26,7 @@ from ..errors import (
     Unknown,
     UnknownDo,
 )
-from ..room import Room
+from ..room import Room, guarded
 from .connection import UNKNOWN, Accepted, Action, Answer, Listener, News, Refusal, Welcome
 from .elements import Row
 
@@ -43,8 +43,8 @@ LOOK = 0.02
 RUN_SECONDS = 20
 
 
-class NoGroups(Error):
-    """The server does not know groups."""
+class TooOld(Error):
+    """The server does not know groups, or does not read what their author had seen."""
 
 
 class PlannedCore(Core):
@@ -141,23 +141,22 @@ class ServerRoom:
         self.refusals: collections.Counter[str] = collections.Counter()
 
     async def __aenter__(self) -> "ServerRoom":
-        """Connects. Raises what `Room.open` raises, and NoGroups."""
+        """Connects. Raises what `Room.open` raises, and TooOld."""
         await self._reader.open()
         try:
-            await self._check_groups()
+            await self._check_version()
         except BaseException:
             await self._reader.close()
             raise
         return self
 
-    async def _check_groups(self) -> None:
-        """Raises NoGroups if the server does not know groups. It refuses an empty group for its list."""
+    async def _check_version(self) -> None:
+        """Raises TooOld unless the server reads `since` of a group. It refuses a bad one before it reads the list."""
         try:
-            await self._reader.ask(messages.group([]))
-        except BadField:
-            return
-        except UnknownDo as fault:
-            raise NoGroups(f"the server at {self.url} is older than version 1.1.0, which uploads need") from fault
+            await self._reader.ask(guarded(messages.group([]), -1))
+        except (BadField, UnknownDo) as refusal:
+            if refusal.no.get("field") != "since":
+                raise TooOld(f"the server at {self.url} is older than version 2.0.0, which uploads need") from refusal
 
     async def __aexit__(
         self, kind: type[BaseException] | None, fault: BaseException | None, trace: TracebackType | None
@@ -299,10 +298,12 @@ class ServerRoom:
     # These take the run when they are called, since a task that awaits them may begin in a later run.
 
     def send_group(
-        self, author: str, actions: Sequence[Action], announce: Callable[[int], None]
+        self, author: str, actions: Sequence[Action], announce: Callable[[int], None], since: int | None = None
     ) -> Coroutine[Any, Any, Answer]:
-        """Sends actions as one message, after it called `announce` with the message's id."""
-        return self._counted(self._write(self._run, author, messages.group(actions), announce=announce))
+        """Sends actions as one message, after it called `announce` with the message's id. They were planned on the map
+        of the entry `since`."""
+        message = dict(guarded(messages.group(actions), since))
+        return self._counted(self._write(self._run, author, message, announce=announce))
 
     def undo(self, author: str, seq: int) -> Coroutine[Any, Any, Answer]:
         """Undoes an entry of an author."""

@@ -10,7 +10,7 @@ from typing import NamedTuple
 
 from .connection import News, Welcome
 from .documents import Bounds, ElementState
-from .elements import Row, Rows, is_same, references, text_units
+from .elements import Row, Rows, changed_parts, is_same, references, text_units
 from .grid import Grid
 from .ids import Kind, has_api_id, room_name
 from .ledger import FIRST_VERSION, Known, Ledger
@@ -33,14 +33,22 @@ MOST_AVOIDED = 10**12
 
 @dataclass(frozen=True)
 class Entry:
-    """An entry, and the versions that it gave to the elements that it changed. `moment` is when it came, on a clock
-    that never goes back."""
+    """An entry, the versions that it gave to the elements that it changed, and which parts of them it changed. `moment`
+    is when it came, on a clock that never goes back."""
 
     seq: int
     author: str
     versions: Mapping[str, int]
+    parts: Mapping[str, frozenset[str]]
     time: float
     moment: float
+
+    def may_overtake(self, other: "Entry", on_any_part: bool) -> bool:
+        """Returns whether this entry, which came first, changed elements of another one whose author may not have seen
+        that. If both changed the same part, the author had seen it: otherwise the room would have refused the other
+        one. With `on_any_part`, that does not count."""
+        both = self.parts.keys() & other.parts.keys()
+        return bool(both) and (on_any_part or all(self.parts[name].isdisjoint(other.parts[name]) for name in both))
 
 
 @dataclass(frozen=True)
@@ -154,12 +162,13 @@ class RoomMap:
         rows = shown(news.rows)
         watched = {name: row for name, row in rows.items() if self._watch and name in self._watch.names}
         before = {name: self.row(name) for name in watched}
+        parts = {name: changed_parts(self.row(name), row) for name, row in rows.items()}
         for name, row in rows.items():
             self._put(name, row)
         now = self.changed_at = self.clock()
         self.ledger.news(rows, news.seq, news.author, now, self._created)
         versions = {name: self.ledger.known[name].version for name in rows}
-        entry = Entry(news.seq, news.author, versions, now, time.monotonic())
+        entry = Entry(news.seq, news.author, versions, parts, now, time.monotonic())
         self._remember(entry)
         if self._watch:
             self._watch.add(entry, before, watched)
@@ -335,13 +344,14 @@ class RoomMap:
         while len(self._own) > MOST_OWN:
             del self._own[next(iter(self._own))]
 
-    def unsettled(self, moment: float) -> dict[str, Entry]:
+    def unsettled(self, moment: float, on_any_part: bool = False) -> dict[str, Entry]:
         """Returns the entries before a moment that another bridge may still take back, by the elements that they
         changed. Of several on an element it is the last.
 
-        Another author's entry on the same elements came shortly before such an entry, and nothing of its author came
-        after it: a bridge takes an upload back before it sends the next. The bridge's own entries are settled, and so
-        is what those built on that it kept."""
+        Another author's entry on other parts of the same elements came shortly before such an entry, and nothing of its
+        author came after it: a bridge takes an upload back before it sends the next. The bridge's own entries are
+        settled, and so is what those built on that it kept. With `on_any_part`, the other author's entry may have
+        changed the same part, too."""
         found: dict[str, Entry] = {}
         settled: set[str] = set()
         since, later = time.monotonic() - SETTLING_SECONDS, set()
@@ -349,19 +359,17 @@ class RoomMap:
             if entry.seq in self._own:
                 settled.update(entry.versions if self._own[entry.seq] else ())
                 continue
-            if entry.moment < moment and entry.author not in later and self._may_be_overtaken(entry):
+            if entry.moment < moment and entry.author not in later and self._may_be_overtaken(entry, on_any_part):
                 for name in entry.versions.keys() - settled:
                     found.setdefault(name, entry)
             later.add(entry.author)
         return found
 
-    def _may_be_overtaken(self, entry: Entry) -> bool:
-        """Returns whether another author's entry on the same elements came shortly before an entry."""
+    def _may_be_overtaken(self, entry: Entry, on_any_part: bool) -> bool:
+        """Returns whether another author's entry that it may not have seen came shortly before an entry."""
         since = entry.moment - SETTLING_SECONDS
         return any(
-            other.seq < entry.seq
-            and other.author != entry.author
-            and not other.versions.keys().isdisjoint(entry.versions)
+            other.seq < entry.seq and other.author != entry.author and other.may_overtake(entry, on_any_part)
             for other in itertools.takewhile(lambda other: other.moment >= since, reversed(self.recent))
         )
 

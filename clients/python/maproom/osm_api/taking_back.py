@@ -111,20 +111,20 @@ class TakingBack:
     async def _repaired(self, group: Group, step: Step, refusal: Refusal, tries: int) -> Left:
         """Repairs a group that cannot be undone. A repair that was overtaken itself is taken back, and made anew.
 
-        A later entry on the same elements may be taken back as well, and then what it covered is as the group left it.
-        So the map is looked at once more when the later entries are settled."""
+        A later entry on the same elements may be taken back as well, also by its mapper, and then what it covered is as
+        the group left it. So the map is looked at once more when the later entries are settled."""
         is_whole, last, began = True, refusal, time.monotonic()
         while tries:
             await self._room.catch_up()
             repair, seen, run = plan_repair(step.before, step.after, self._map), self._map.seq, self._map.run
             if not repair.actions:
-                later = last_of(self._map.unsettled(began), step.after)
+                later = last_of(self._map.unsettled(began, on_any_part=True), step.after)
                 if later is None:
                     return Left(repair.stays, refusal, is_whole)
                 await self._map.settled(later)
                 continue
             tries -= 1
-            sent = await self._sent(group, repair)
+            sent = await self._sent(group, repair, seen)
             if isinstance(sent, Refusal):
                 last = sent
                 if sent.why in ("full", TOO_LARGE):
@@ -138,12 +138,12 @@ class TakingBack:
         repair = plan_repair(step.before, step.after, self._map)
         return Left(in_order({*repair.rows, *repair.stays}), last, is_whole)
 
-    async def _sent(self, group: Group, repair: Repair) -> Group | Refusal:
-        """Sends a repair. Returns its group, or the room's refusal."""
+    async def _sent(self, group: Group, repair: Repair, seen: int) -> Group | Refusal:
+        """Sends a repair that was planned on the map of an entry. Returns its group, or the room's refusal."""
         if len(repair.actions) > MOST_ACTIONS or sum(len(compact(action)) for action in repair.actions) > MOST_BYTES:
             return Refusal(TOO_LARGE)
         run = self._map.run
-        answer = await self._room.send_group(group.author, repair.actions, lambda message: None)
+        answer = await self._room.send_group(group.author, repair.actions, lambda message: None, seen)
         if isinstance(answer, Refusal):
             return answer
         run = run if answer.run is None else answer.run

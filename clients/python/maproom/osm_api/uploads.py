@@ -1,8 +1,11 @@
 """Carries uploads out in a room, each as one group, and takes the last ones back.
 
-An upload is planned on the map and sent. If the room refuses the group, somebody was quicker: the plan is made again
-on the map as it is then, so that a conflict is always reported by a plan, in the API's words. If another entry changed
-an element of the upload between the map of the plan and the group, the group is taken back and planned again."""
+An upload is planned on the map, and sent with the number of its last entry. So the room refuses it if another author
+changed since what it would change. If the room refuses the group, somebody was quicker: the plan is made again on the
+map as it is then, so that a conflict is always reported by a plan, in the API's words.
+
+The room compares parts of elements, and the API elements. If an entry in between changed another part of an element of
+the upload, or was by another program of the same author, the group is taken back and planned again."""
 import asyncio
 import contextlib
 import time
@@ -218,9 +221,10 @@ class Uploads:
             plan = draft.plan
             unsettled = self._map.unsettled(began) if plan.actions else {}
             entry = await worked(last_of, unsettled, names_in(plan)) if unsettled else None
-            if entry is None:
+            if entry:
+                await self._map.settled(entry)
+            elif self._holds(draft):  # others may have changed its elements meanwhile
                 return plan
-            await self._map.settled(entry)
 
     async def _drafted(self, upload: Upload) -> Draft:
         """Plans an upload on the present map. Others go on meanwhile. If they change elements of the upload, it is
@@ -334,7 +338,7 @@ class Uploads:
             else:  # it waits for a session of its author, and was not sent
                 sent.cancel()
 
-        sent = asyncio.create_task(self._room.send_group(upload.author, plan.actions, announce))
+        sent = asyncio.create_task(self._room.send_group(upload.author, plan.actions, announce, attempt.seen))
         answer = await self._in_time(asyncio.shield(sent), no_connection(BROKEN), give_up)
         if isinstance(answer, Refusal) and answer.why != UNKNOWN:
             self._ledger.settle(upload.request)

@@ -18,6 +18,11 @@ final class Answer {
         return (Long) ok.get("seq");
     }
 
+    /** Returns the number of the entry that a refusal names. */
+    long with() {
+        return (Long) no.get("with");
+    }
+
     /** Returns the reason of a refusal, or an empty text if the room accepted the message. */
     String why() {
         return no == null ? "" : String.valueOf(no.get("why"));

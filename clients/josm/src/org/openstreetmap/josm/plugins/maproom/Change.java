@@ -74,7 +74,9 @@ final class Change {
         if (before == null || theirBefore == null || theirAfter == null) return false;
         if (theirBefore.equals(theirAfter)) return false;
         if (after == null) return true;
-        if (hasNewRest && !theirBefore.hasSameRest(theirAfter) && !theirAfter.hasSameRest(after)) return true;
+        // A move is a distance, so a node would go on from where somebody else moved it to.
+        boolean isSame = name.kind != 'n' && theirAfter.hasSameRest(after);
+        if (hasNewRest && !theirBefore.hasSameRest(theirAfter) && !isSame) return true;
         return tags.entrySet().stream().anyMatch(each -> {
             String theirs = theirAfter.tags.get(each.getKey());
             return !Objects.equals(theirs, theirBefore.tags.get(each.getKey()))

@@ -16,6 +16,8 @@ final class Group {
     long entry;
     /** Whether it is on its way. */
     boolean isSent;
+    /** The mirror's last entry when it was sent: up to there, it was compared with what others did. */
+    long since;
     /** The refusal for a change of somebody else's to the same part of an element in the same moment, or null. */
     Map<String, Object> clash;
 

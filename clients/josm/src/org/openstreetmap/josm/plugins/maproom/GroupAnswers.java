@@ -25,7 +25,7 @@ final class GroupAnswers {
             boolean isDone = "nothing".equals(answer.why())
                     && (group.changes.isEmpty() || !answer.no.containsKey("action"));
             if (isDone) forget(group); // others did the same already
-            else refuse(group, answer.no);
+            else refuse(group, "changed".equals(answer.why()) && group.clash != null ? group.clash : answer.no);
             session.lists.forget();
         }
     }
@@ -35,9 +35,6 @@ final class GroupAnswers {
         group.command.group = null;
         session.commands.accepted(group.command, entry);
         session.lists.accepted(entry);
-        if (group.clash == null) return;
-        session.jobs.addFirst(Jobs.Work.TAKE_BACK, group.command, group);
-        dropLater(new HashSet<>(group.changes.keySet()));
     }
 
     /** Takes a group away with its command. */
@@ -56,6 +53,10 @@ final class GroupAnswers {
         } else if ("nothing".equals(answer.why()) && answer.no.get("action") instanceof Long) {
             group.changes.keySet().forEach(overlay::unsettle);
             if (!group.leaveOut(((Long) answer.no.get("action")).intValue()) || group.changes.isEmpty()) return false;
+        } else if ("changed".equals(answer.why())) {
+            // The mirror has that entry by now, and the group was compared with it, each tag by itself. To the room,
+            // all tags of an element are one part.
+            if (group.clash != null || answer.with() <= group.since) return false;
         } else {
             return false;
         }
@@ -86,18 +87,5 @@ final class GroupAnswers {
     private void drop(Group group) {
         session.jobs.withdraw(group);
         session.commands.drop(group.command);
-    }
-
-    /** Takes the answer to the undo of a group that the room accepted over somebody else's change. */
-    void endTakeBack(Jobs.Job job, Answer answer) {
-        String text = job.command.getDescriptionText() + " was taken back: " + session.history.inWords(job.group.clash)
-                + ".";
-        if (answer.ok != null) {
-            session.lists.undone(job.command.entry);
-        } else {
-            session.lists.forget();
-            text += " It stays in the room, because " + session.history.inWords(answer.no) + ".";
-        }
-        session.watcher.warn(text);
     }
 }

@@ -16,13 +16,13 @@ final class Jobs {
     /** After how many milliseconds a job that the server had no memory for is tried again. */
     private static final int MEMORY_PAUSE = 1000;
 
-    enum Work { GROUP, UNDO, REDO, TAKE_BACK, LISTS }
+    enum Work { GROUP, UNDO, REDO, LISTS }
 
     /** Something to ask of the room. */
     static final class Job {
         final Work work;
         final RoomCommand command;
-        /** The group of a GROUP or a TAKE_BACK. */
+        /** The group of a GROUP. */
         final Group group;
         /** The run of the server that got the message. */
         private int run;
@@ -68,11 +68,6 @@ final class Jobs {
         queue.removeIf(Job::isUndoOrRedo);
     }
 
-    /** Takes all jobs away that name an entry and have not begun. */
-    void dropEntries() {
-        queue.removeIf(each -> each.isUndoOrRedo() || each.work == Work.TAKE_BACK);
-    }
-
     /** Returns whether nothing is under way and nothing waits. */
     boolean isIdle() {
         return queue.isEmpty() && current == null;
@@ -104,7 +99,7 @@ final class Jobs {
     /** Returns whether a job is still what the mapper wants, after the answers to those before it. */
     private boolean isPossible(Job job) {
         if (job.work == Work.GROUP || job.work == Work.LISTS) return true;
-        if (job.command.entry == 0 || job.command.isDropped && job.work != Work.TAKE_BACK) return false;
+        if (job.command.entry == 0 || job.command.isDropped) return false;
         // The room redoes what was undone last, so this has to be what JOSM shows as the next redo.
         if (job.work != Work.REDO || !session.lists.isKnown()) return true;
         return session.lists.nextRedo() == job.command.entry;
@@ -115,6 +110,7 @@ final class Jobs {
         switch (job.work) {
         case GROUP:
             job.group.isSent = true;
+            job.group.since = session.seq();
             session.connection.ask(Messages.ofGroup(job.group), entry -> {
                 job.group.entry = entry;
                 session.expect(entry);
@@ -134,7 +130,10 @@ final class Jobs {
     private void end(Job job, Answer answer) {
         if ("memory".equals(answer.why())) {
             Timer timer = new Timer(MEMORY_PAUSE, event -> {
-                if (current == job) begin(job);
+                if (current != job) return;
+                current = null;
+                queue.addFirst(job); // others may have changed the same by now
+                next();
             });
             timer.setRepeats(false);
             timer.start();
@@ -156,7 +155,6 @@ final class Jobs {
         case GROUP: groups.end(job, answer); break;
         case UNDO: endUndo(job, answer); break;
         case REDO: endRedo(job, answer); break;
-        case TAKE_BACK: groups.endTakeBack(job, answer); break;
         default: session.lists.take(answer.ok != null ? answer.ok : Map.of("undos", List.of(), "redo", List.of()));
         }
     }

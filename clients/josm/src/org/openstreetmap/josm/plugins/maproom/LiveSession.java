@@ -248,8 +248,16 @@ final class LiveSession implements RoomConnection.Listener, RoomCommand.Session 
         isEntered = true;
         dirty.open();
         commands.open();
+        connection.ask(Messages.check(), entry -> { }, this::checkVersion);
         jobs.next();
         watcher.entered();
+    }
+
+    /** Leaves a room that would accept a change over what its mapper had not seen. */
+    private void checkVersion(Answer answer) {
+        boolean isOlder = "unknown_do".equals(answer.why())
+                || "bad_field".equals(answer.why()) && !"since".equals(answer.no.get("field"));
+        if (isOlder) connection.giveUp("the server is older than version 2.0.0");
     }
 
     /** Notes that an entry is of this session. Its news come later. */
@@ -264,9 +272,9 @@ final class LiveSession implements RoomConnection.Listener, RoomCommand.Session 
         if (!isOwn && by.equals(author)) lists.forget(); // another program of the mapper's made it
         List<Group> groups = overlay.groups();
         for (Difference row : rows) overlay.unsettle(row.name, row.before);
-        // Later groups build on this session's own group. A group that the room accepted earlier is in the rows.
+        // Later groups build on this session's own group. The room compared a group that it accepted.
         if (groups.stream().noneMatch(each -> each.entry == seq)) {
-            groups.stream().filter(each -> each.entry == 0 || seq < each.entry)
+            groups.stream().filter(each -> each.entry == 0)
                     .forEach(each -> rows.forEach(row -> each.compare(row, seq)));
         }
         warnLate(false);
@@ -285,7 +293,7 @@ final class LiveSession implements RoomConnection.Listener, RoomCommand.Session 
         if (restarted == null || restarted) {
             run++;
             history.forget();
-            jobs.dropEntries();
+            jobs.dropUndosAndRedos();
             commands.dropEntries();
             if (restarted != null) {
                 watcher.warn("The server was started anew. Earlier changes cannot be undone any more.");

@@ -2,6 +2,7 @@
 package org.openstreetmap.josm.plugins.maproom;
 
 import java.util.LinkedHashMap;
+import java.util.List;
 import java.util.Map;
 
 /** The messages that the plugin sends, without their ids. A field that each of them gets has its place here alone. */
@@ -10,10 +11,19 @@ final class Messages {
         // only functions
     }
 
-    /** Returns the message that does the changes of a group as one entry. */
+    /** Returns the message that does the changes of a group as one entry, unless others changed the same since. */
     static Map<String, Object> ofGroup(Group group) {
         Map<String, Object> message = message("group");
+        message.put("since", group.since);
         message.put("actions", Planner.actions(group.changes.values()));
+        return message;
+    }
+
+    /** Returns a group that each room refuses: as `bad_field` of `since`, unless it does not read that field. */
+    static Map<String, Object> check() {
+        Map<String, Object> message = message("group");
+        message.put("since", -1L);
+        message.put("actions", List.of());
         return message;
     }
 

@@ -11,7 +11,7 @@ final class Reasons {
     private static final Pattern MEMBER = Pattern.compile("\\{(\\w+)\\}");
 
     private static final Map<String, String> WORDS = Map.ofEntries(
-            Map.entry("unknown_do", "the room is older than version 1.1.0 and does not know groups"),
+            Map.entry("unknown_do", "the server is older than this plugin"),
             Map.entry("bad_field", "the room cannot hold {field} of {el}: a text has at most 255 characters, and a "
                     + "coordinate lies in the world"),
             Map.entry("no_room", "the server has no such room"),
@@ -31,6 +31,7 @@ final class Reasons {
             Map.entry("too_many", "{el} would have too many nodes, members or tags"),
             Map.entry("in_use", "{by} uses {el}"),
             Map.entry("nothing", "the map would not change"),
+            Map.entry("changed", "entry {with} changed {el} in the same moment"),
             Map.entry("memory", "the server is out of memory"),
             // These are the plugin's own reasons.
             Map.entry("clash", "entry {with} changed {el} in the same moment"),

@@ -119,6 +119,11 @@ final class RoomConnection {
         end(null);
     }
 
+    /** Leaves the room, because a mapper cannot work in it. */
+    void giveUp(String why) {
+        end(why);
+    }
+
     /** Sends a message without its id, as {@link RoomCore#ask}. */
     void ask(Map<String, Object> message, LongConsumer accepted, Consumer<Answer> done) {
         core.ask(message, accepted, done);

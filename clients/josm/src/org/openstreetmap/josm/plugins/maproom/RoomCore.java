@@ -67,6 +67,17 @@ final class RoomCore {
             Object word = message.get("do");
             return !("get".equals(word) || "map".equals(word) || "undos".equals(word));
         }
+
+        /** Returns whether the message has the number of an entry, which means nothing in another journal. */
+        boolean namesAnEntry() {
+            return message.containsKey("seq") || message.containsKey("since");
+        }
+
+        /** Returns the entry that the mirror needs before an answer is reported, or 0. */
+        long entryOf(Answer answer) {
+            if (answer.ok != null) return isChange() ? answer.seq() : 0;
+            return "changed".equals(answer.why()) ? answer.with() : 0;
+        }
     }
 
     /** The room sent something that cannot come next, for example news with a gap. Only a new session helps. */
@@ -99,12 +110,14 @@ final class RoomCore {
         }
     }
 
-    /** An accepted change whose news the mirror does not have yet. */
+    /** An answer that names an entry whose news the mirror does not have yet. */
     private static final class Settling {
+        final long entry;
         final Asked asked;
         final Answer answer;
 
-        Settling(Asked asked, Answer answer) {
+        Settling(long entry, Asked asked, Answer answer) {
+            this.entry = entry;
             this.asked = asked;
             this.answer = answer;
         }
@@ -192,7 +205,7 @@ final class RoomCore {
      * Adds a message. {@link #more} has it as soon as it can go out.
      * @param message its fields without the id
      * @param accepted hears the number of the entry as soon as the room accepted the message, before the entry's news
-     * @param done hears the answer; an accepted change is in the mirror by then
+     * @param done hears the answer; the mirror has an accepted change by then, and the entry of a refusal `changed`
      */
     void ask(Map<String, Object> message, LongConsumer accepted, Consumer<Answer> done) {
         queued.add(new Asked(nextId++, message, accepted, done));
@@ -326,7 +339,7 @@ final class RoomCore {
         Set<Asked> waiting = queued;
         queued = new LinkedHashSet<>();
         for (Asked asked : waiting) {
-            if (asked.isChange() && (asked.timesSent > 0 || restarted || asked.message.containsKey("seq"))) {
+            if (asked.isChange() && (asked.timesSent > 0 || restarted || asked.namesAnEntry())) {
                 Answer answer = new Answer(null, Map.of("why", asked.timesSent > 0 ? "unknown" : "not_sent"));
                 calls.add(() -> asked.done.accept(answer));
             } else {
@@ -347,15 +360,14 @@ final class RoomCore {
         Answer answer = isLate ? new Answer(Map.of("seq", no.get("seq")), null)
                 : new Answer((Map<?, ?>) message.get("ok"), no);
         if (answer.ok == null && answer.no == null) throw new OutOfStep("the room's answer is no answer");
-        boolean isAccepted = answer.ok != null && asked.isChange();
-        long entry = isAccepted ? answer.seq() : -1;
+        long entry = asked.entryOf(answer);
         sent.remove(asked);
-        if (isAccepted) {
+        if (answer.ok != null && asked.isChange()) {
             acceptedId = asked.id;
             acceptedSeq = entry;
             calls.add(() -> asked.accepted.accept(entry));
         }
-        if (isAccepted && entry > seq) settling.add(new Settling(asked, answer));
+        if (entry > seq) settling.add(new Settling(entry, asked, answer));
         else calls.add(() -> asked.done.accept(answer));
     }
 
@@ -383,9 +395,9 @@ final class RoomCore {
         }
     }
 
-    /** Reports the accepted changes up to an entry. */
+    /** Reports the answers that name entries up to this one. */
     private void settle(long upTo, List<Runnable> calls) {
-        while (!settling.isEmpty() && settling.get(0).answer.seq() <= upTo) {
+        while (!settling.isEmpty() && settling.get(0).entry <= upTo) {
             Settling each = settling.remove(0);
             calls.add(() -> each.asked.done.accept(each.answer));
         }
