@@ -344,7 +344,7 @@ class Checks {
       const [place] = places.sort((a, b) => distanceBetween(a, at) - distanceBetween(b, at));
       if (!place) throw new NotDone("gone");
       const segments = [one, other].flatMap((el) => this.segmentAt(el, place) ?? []);
-      return Edits.point({ ...place, segments }, {}, this.elements, newName);
+      return Edits.point({ ...place, segments }, {}, this.elements, this.shapes, newName);
     };
   }
 
@@ -425,7 +425,7 @@ class Checks {
     return () => {
       const segment = this.segmentAt(to, this.at(id));
       if (!segment || this.shapes.usersOf(id).includes(to)) throw new NotDone("gone");
-      return Edits.moveOnto(nodeOf(id), { ...segment.on, segments: [segment] }, this.elements);
+      return Edits.moveOnto(nodeOf(id), { ...segment.on, segments: [segment] }, this.elements, this.shapes);
     };
   }
 

@@ -10,6 +10,7 @@
  *   & Record<ButtonId, HTMLButtonElement>
  *   & Record<"here" | "who" | "state" | "saved" | "place" | "frame" | "map" | "map-keys" | "above", HTMLElement>
  *   & Record<"drawing" | "message" | "said" | "chosen" | "chosen-title" | "under" | "where" | "menu", HTMLElement>
+ *   & Record<"question" | "question-title" | "question-values", HTMLElement>
  *   & Record<"not-done" | "not-done-title" | "not-done-changes" | "news" | "side" | "grip", HTMLElement>
  *   & Record<"selected" | "selected-title" | "unsaved-tags" | "unsaved-title" | "typed", HTMLElement>
  *   & Record<"find-title" | "found-count" | "found" | "undos-title" | "undos", HTMLElement>

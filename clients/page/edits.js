@@ -9,12 +9,6 @@
  *
  * Makes the actions of a gesture from the map as it is.
  * @typedef {(newName: NameGiver) => maproom.Message[]} Build
- *
- * A segment of a way between two nodes, and which part of it lies before a place.
- * @typedef {{ el: string, one: number, other: number, part: number }} Segment
- *
- * A place of a drawing on the plane of shapes.js, which may be at a node or on segments.
- * @typedef {{ x: number, y: number, el?: string, segments?: Segment[] }} Place
  */
 
 /**
@@ -85,136 +79,93 @@ function placeIn(list, what, at) {
   return place;
 }
 
-// A node may lie so far from a segment into which it is inserted, on the plane: two metres at the equator.
-const MOST_APART = 5e-8;
-
-/** Nodes that are inserted into segments of ways. */
-class Inserts {
-  /** @param {Elements} elements */
-  constructor(elements) {
-    this.elements = elements;
-    /** @type {Lists<string, { id: number, one: number, other: number, part: number }>} */
-    this.byWay = new Lists();
-    /** @type {Map<number, Place>} */
-    this.places = new Map();
-  }
-
-  /**
-   * @param {number} id
-   * @param {Place} place
-   */
-  add(id, place) {
-    this.places.set(id, place);
-    for (const { el, one, other, part } of place.segments ?? []) {
-      if (this.elements.has(el)) this.byWay.add(el, { id, one, other, part });
-    }
-  }
-
-  /**
-   * The list of a way with the nodes in it.
-   * @param {string} el
-   */
-  nodesOf(el) {
-    const { nodes } = wayOf(el, this.elements);
-    const waiting = new Set(this.byWay.get(el));
-    const list = [nodes[0]];
-    for (let index = 1; index < nodes.length; index++) {
-      const [before, after] = [nodes[index - 1], nodes[index]];
-      const here = [...waiting].flatMap((insert) => {
-        if (insert.one === before && insert.other === after) return [{ ...insert, insert }];
-        if (insert.one === after && insert.other === before) return [{ ...insert, part: 1 - insert.part, insert }];
-        return [];
-      });
-      for (const { id, insert } of here.sort((one, other) => one.part - other.part)) {
-        if (lastOf(list) !== id) list.push(id);
-        waiting.delete(insert);
-      }
-      list.push(after);
-    }
-    for (const { id } of waiting) this.putNearest(list, id);
-    return list;
-  }
-
-  /**
-   * Puts a node whose segment is not there any more into the nearest one, if it lies on it.
-   * @param {number[]} list
-   * @param {number} id
-   */
-  putNearest(list, id) {
-    const at = this.places.get(id);
-    let [best, least] = [0, MOST_APART];
-    for (let index = 1; index < list.length; index++) {
-      const [one, other] = [this.placeOf(list[index - 1]), this.placeOf(list[index])];
-      const distance = at && one && other ? distanceTo(at, [one, other]) : Infinity;
-      if (distance < least) [best, least] = [index, distance];
-    }
-    if (best > 0) list.splice(best, 0, id);
-  }
-
-  /**
-   * @param {number} id
-   * @returns {Position | undefined}
-   */
-  placeOf(id) {
-    const row = this.elements.get(nodeOf(id));
-    return row?.lat ? { x: Mercator.x(row.lon), y: Mercator.y(row.lat) } : this.places.get(id);
-  }
-
-  actions() {
-    const lists = [...this.byWay.keys()].map((el) => ({ do: "nodes", el, nodes: this.nodesOf(el) }));
-    return lists.filter(({ el, nodes }) => nodes.length > wayOf(el, this.elements).nodes.length);
-  }
-}
-
 const Edits = {
   /**
-   * Makes a node, also as a part of the ways on whose segments it lies.
+   * Makes a node, also as a part of the ways on whose segments it lies. `lost` gets the joints that were lost.
    * @param {Place} place
    * @param {Tags} tags
    * @param {Elements} elements
+   * @param {Shapes} shapes
    * @param {NameGiver} newName
+   * @param {LostJoint[]} [lost]
    * @returns {maproom.Message[]}
    */
-  point(place, tags, elements, newName) {
+  point(place, tags, elements, shapes, newName, lost = []) {
     const el = newName("n");
-    const inserts = new Inserts(elements);
-    inserts.add(idOf(el), place);
-    return [{ do: "create", el, ...coordinatesOf(place), tags }, ...inserts.actions()];
+    const inserts = new Inserts(elements, shapes);
+    const at = inserts.add(idOf(el), place);
+    lost.push(...inserts.lost);
+    return [{ do: "create", el, ...coordinatesOf(at), tags }, ...inserts.actions()];
   },
 
   /**
-   * Moves a node to a place on segments, and makes it a part of their ways.
+   * Moves a node to a place on segments, and makes it a part of their ways. `lost` gets the joints that were lost.
    * @param {string} el
    * @param {Place} place
    * @param {Elements} elements
+   * @param {Shapes} shapes
+   * @param {LostJoint[]} [lost]
    * @returns {maproom.Message[]}
    */
-  moveOnto(el, place, elements) {
+  moveOnto(el, place, elements, shapes, lost = []) {
     if (!elements.has(el)) throw new NotDone("gone");
-    const inserts = new Inserts(elements);
-    inserts.add(idOf(el), place);
-    return [...moveNode(idOf(el), place, elements), ...inserts.actions()];
+    const inserts = new Inserts(elements, shapes);
+    const at = inserts.add(idOf(el), place);
+    lost.push(...inserts.lost);
+    return [...moveNode(idOf(el), at, elements), ...inserts.actions()];
   },
 
   /**
-   * Makes a way through places, or makes the way `extend` longer at the end where the first of them is.
-   * @param {Place[]} places
-   * @param {{ isClosed?: boolean, tags?: Tags, extend?: string | null }} how
+   * Moves nodes by a distance in steps of 1e-7 degrees from where they were, wherever others moved them since.
+   * @param {MapNode[]} seen
+   * @param {number} dlat
+   * @param {number} dlon
    * @param {Elements} elements
+   * @returns {maproom.Message[]}
+   */
+  moveFrom(seen, dlat, dlon, elements) {
+    /**
+     * @param {string} there
+     * @param {string} here
+     */
+    const steps = (there, here) => Math.round((Number(there) - Number(here)) * 1e7);
+    return seen.flatMap(({ el, lat, lon }) => {
+      const row = elements.get(el);
+      if (row?.lat === undefined) return [];
+      const [north, east] = [steps(lat, row.lat) + dlat, steps(lon, row.lon) + dlon];
+      return north || east ? [{ do: "move", els: [el], dlat: north, dlon: east }] : [];
+    });
+  },
+
+  /**
+   * Makes a way through places, or makes the way `extend` longer at the end where the first of them is. `lost` gets the
+   * joints that were lost since the mapper clicked.
+   * @param {Place[]} places
+   * @param {{ isClosed?: boolean, tags?: Tags, extend?: string | null, lost?: LostJoint[] }} how
+   * @param {Elements} elements
+   * @param {Shapes} shapes
    * @param {NameGiver} newName
    * @returns {maproom.Message[]}
    */
-  way(places, { isClosed = false, tags = {}, extend = null }, elements, newName) {
-    const inserts = new Inserts(elements);
+  way(places, { isClosed = false, tags = {}, extend = null, lost = [] }, elements, shapes, newName) {
+    const inserts = new Inserts(elements, shapes);
     /** @type {maproom.Message[]} */
     const made = [];
     const ids = places.map((place) => {
-      if (place.el && elements.has(place.el)) return idOf(place.el);
+      if (place.el && elements.has(place.el)) {
+        inserts.lookAt(place);
+        return idOf(place.el);
+      }
+      const joint = inserts.jointAt(place);
+      if (joint !== null) {
+        inserts.add(joint, place);
+        return joint;
+      }
       const el = newName("n");
-      made.push({ do: "create", el, ...coordinatesOf(place), tags: {} });
-      inserts.add(idOf(el), place);
+      made.push({ do: "create", el, ...coordinatesOf(inserts.add(idOf(el), place)), tags: {} });
       return idOf(el);
     });
+    lost.push(...inserts.lost);
     if (isClosed) ids.push(ids[0]);
     const nodes = ids.filter((id, at) => at === 0 || id !== ids[at - 1]);
     const last = extend ? Edits.longer(extend, nodes, inserts) : { do: "create", el: newName("w"), nodes, tags };

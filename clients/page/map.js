@@ -4,10 +4,11 @@
 //     Session         the room, over the library maproom.js: its map, gestures, what is not saved, and undos
 //     Shapes          the elements on the plane of the map, which it draws and finds
 //     View            the window on them, with Leaflet; Pointers reports clicks and drags, labels.js places the names
-//     Tools           what clicks, drags and keys on the map do
+//     Tools           what clicks, drags and keys on the map do; Overlay draws that over the map
 //     Panels          the lists and fields next to the map
 //     TagForm         the fields of the tags; a TagDraft has those that are typed
 //     Warnings        the faults that Checks finds, in what the mapper changed and in the whole map
+//     Questions       what the mapper is asked if somebody else changed the same value
 //     Copies          what the mapper copied
 //     Background      the tiles under the map
 //

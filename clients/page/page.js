@@ -38,6 +38,9 @@ function firstMoves(actions) {
 // How many refusals a message has at most.
 const MOST_REFUSALS = 4;
 
+// After how many milliseconds news count as seen that the browser does not paint.
+const UNPAINTED = 100;
+
 class Page {
   constructor() {
     /** @type {Session | null} */
@@ -64,8 +67,10 @@ class Page {
     this.changesLater = undefined;
     this.shapes = new Shapes();
     this.tools = new Tools(this);
+    this.overlay = new Overlay(this);
     this.panels = new Panels(this);
     this.warnings = new Warnings(this);
+    this.questions = new Questions(this);
     this.copies = new Copies();
     // These are set when Leaflet is there. Nothing can be pressed before.
     /** @type {View} */
@@ -97,7 +102,7 @@ class Page {
   /** Makes the map, once Leaflet is there. */
   makeMap() {
     this.view = new View($("map"), this.shapes, {
-      paintOver: (context, frame) => this.tools.paintOver(context, frame),
+      paintOver: (context, frame) => this.overlay.paint(context, frame),
       labels: (box, zoom, widthOf) => labelsIn(this, box, zoom, widthOf),
       obstacles: (box, zoom) => obstaclesIn(this.shapes, box, zoom),
     });
@@ -116,6 +121,7 @@ class Page {
     if (this.isElsewhere(url, roomName)) this.forgetRoom();
     this.session = session;
     this.follow(session);
+    session.choose = (disputes) => this.questions.ask(disputes);
     session.open();
     memory.set("maproom last", { url, room: roomName, name });
     return session;
@@ -185,6 +191,9 @@ class Page {
     if (isFirst) this.fit();
     if (!this.view.painted) this.view.paint();
     this.timings.map = performance.now() - began;
+    this.noteSeen();
+    if (restarted) this.questions.drop(() => new NotDone("not_sent", { restarted }));
+    else this.questions.show();
     if (isFirst) this.tools.goOnDrawing();
     if (restarted) this.sayWrong("The server was restarted. This is the map that it has now.");
     setTimeout(() => this.panels.showAll(), 50); // after the map is seen
@@ -208,7 +217,8 @@ class Page {
     const isOther = entry.by !== session.name;
     if (!isOther) this.warnings.takeBefore(rows);
     const boxes = this.shapes.change(rows);
-    if (isOther) this.tools.markFresh(rows.filter(({ after }) => after).map(({ el }) => el), entry.by);
+    entry.text = deedsOf(rows, movedWays(rows, this.shapes, this.elements));
+    if (isOther) this.overlay.markFresh(rows.filter(({ after }) => after).map(({ el }) => el), entry.by);
     this.view.repaint(boxes);
     this.panels.showChange(entry);
     for (const { el, after } of rows) this.panels.learnText(el, after);
@@ -217,8 +227,23 @@ class Page {
     if (rows.some(({ el }) => el[0] === "r")) this.panels.showRelations();
     this.warnings.take(rows, !isOther);
     if (isOther) this.announce(`${entry.by} ${session.deed(entry)}`);
+    this.noteSeen();
     this.afterwards();
     this.timings.news = performance.now() - began;
+  }
+
+  /**
+   * Notes that the mapper has seen all that has come, once it is painted. A page that is not seen paints nothing, and
+   * what it gets counts a little later.
+   */
+  noteSeen() {
+    const { joinedSession: session } = this;
+    const sight = session.now();
+    const note = () => {
+      if (!session.seen || session.seen.mark < sight.mark) session.seen = sight;
+    };
+    requestAnimationFrame(note);
+    setTimeout(note, UNPAINTED);
   }
 
   /** @param {ChangedRow[]} rows */
@@ -285,6 +310,7 @@ class Page {
    */
   showEnd(why) {
     const isKept = this.tools.putAside();
+    this.questions.drop(() => new NotDone("closed"));
     if (why) this.sayWrong(why);
     if (isKept) this.sayWrong("What you drew is kept: connect to the same room to go on with it.");
     this.panels.showUndos();
@@ -508,14 +534,16 @@ class Page {
   /**
    * Does a gesture and says so, or says what refused it. `done` may return an element, which is selected then, unless
    * the mapper has selected something else meanwhile or is typing. `failed` returns whether the mapper has back what
-   * was not saved. Returns whether it was saved.
+   * was not saved. `grounds` has what the mapper had seen when they decided, if that is not now, and the values for
+   * which they are asked if somebody else changed them, too. Returns whether it was saved.
    * @param {string} text
    * @param {Build} build
    * @param {(names: string[], report: (text: string) => void) => string | null | undefined | void} [done]
    * @param {(error: Failure) => boolean} [failed]
+   * @param {Grounds} [grounds]
    * @returns {Promise<boolean>}
    */
-  async perform(text, build, done = () => {}, failed = () => false) {
+  async perform(text, build, done = () => {}, failed = () => false, grounds = {}) {
     const { session, choices } = this;
     if (!session || !this.isInside) {
       this.sayWrong("Connect first.");
@@ -523,7 +551,7 @@ class Page {
     }
     const report = this.reporter();
     try {
-      const names = await session.perform(text, build);
+      const names = await session.perform(text, build, grounds);
       if (session !== this.session) return true;
       report(`Saved: ${text}.`);
       const made = done(names, report);
@@ -533,6 +561,11 @@ class Page {
     } catch (thrown) {
       const error = /** @type {Failure} */ (thrown);
       if (!error.why) console.error(error);
+      if (error.why === "left" || error.why === "turned") {
+        report(sentenceOf(error));
+        failed(error);
+        return false;
+      }
       this.changeRefused(error, this.keepRefusal(() => failed(error)));
       return false;
     }
@@ -584,11 +617,44 @@ class Page {
     const rest = gone > els.length ? ` with ${counted(gone - els.length, "element")} that nothing else needs` : "";
     const text = `deleted ${this.titles(els)}${rest}`;
     const ends = this.endsLost(els);
+    const claims = this.rowsOf(els).map((row) => Claims.gone(row, () => this.elements));
     this.perform(text,
       () => Edits.delete(els.filter((el) => this.elements.has(el)), this.elements, this.shapes, isEverywhere),
       (_, report) => {
         if (ends) report(`Saved: ${text}. ${ends}`);
-      });
+      }, undefined, { claims });
+  }
+
+  /**
+   * Says which joints a gesture lost, since others deleted or moved what was there. `what` has lost them.
+   * @param {string} text
+   * @param {LostJoint[]} lost
+   * @param {string} what
+   */
+  sayLost(text, lost, what) {
+    if (lost.length === 0) return;
+    const sentences = lost.slice(0, 3).map((joint) => `${what} is not joined to ${this.lostText(joint)}`);
+    this.sayWrong(`Saved: ${text}. ${sentences.join(" ")}`, { show: lost[0].el });
+  }
+
+  /**
+   * To what something is not joined, and why.
+   * @param {LostJoint} joint
+   */
+  lostText({ ways, node }) {
+    const session = this.joinedSession;
+    const rows = this.rowsOf(ways);
+    const to = rows.length ? rows.map(titleOf).join(" and ") : ways.join(" and ");
+    const isGone = rows.length === 0;
+    /** @param {ChangedRow} row */
+    const isOf = ({ el, before, after }) => {
+      if (node && !isGone) return el === node && !after;
+      return ways.includes(el) && (isGone ? !after : !isSameValue(before?.nodes, after?.nodes));
+    };
+    const by = session.lastToChange(isOf);
+    const who = by === session.name ? "you" : by ?? "somebody";
+    const deed = isGone ? "deleted it" : node ? "deleted the point" : "changed its line";
+    return `${to} there: ${who} ${deed}.`;
   }
 
   /**
@@ -639,8 +705,10 @@ class Page {
     const text = `reversed ${this.titles([el])}`;
     /** @type {[notes: string[], kept: string[]]} */
     let lists = [[], []];
+    const seen = this.elements.get(el)?.nodes ?? [];
     const build = () => {
       lists = [[], []];
+      if (isTurned(seen, wayOf(el, this.elements).nodes)) throw new NotDone("turned", { el });
       return this.wayEdits.reverse(el, ...lists);
     };
     this.perform(text, build, (_, report) => {
@@ -668,16 +736,37 @@ class Page {
   }
 
   /**
-   * Turns elements round a position, by an angle on the plane.
+   * The rows of the nodes of some nodes and ways.
+   * @param {string[]} els
+   */
+  nodeRowsOf(els) {
+    return this.rowsOf([...this.nodesOf(els)].map(nodeOf)).flatMap((row) => (row.lat === undefined ? [] : [row]));
+  }
+
+  /**
+   * The claim to where nodes are, in the words of what the mapper does with an element of theirs.
+   * @param {string} el
+   * @param {MapNode[]} seen
+   * @param {string} mine
+   */
+  claimPlace(el, seen, mine) {
+    return Claims.place(el, seen, mine, () => this.elements);
+  }
+
+  /**
+   * Turns elements round a position, by an angle on the plane. `seen` has their nodes as the mapper saw them.
    * @param {string[]} els
    * @param {number} angle
    * @param {Position} round
+   * @param {{ sight?: Sight, seen?: MapNode[] }} before
    */
-  rotate(els, angle, round) {
-    return this.perform(`turned ${this.titles(els)}`, () => [...this.nodesOf(els)].flatMap((id) => {
+  rotate(els, angle, round, { sight, seen = this.nodeRowsOf(els) } = {}) {
+    const claim = this.claimPlace(els[0], seen, `turned by ${((angle * 180) / Math.PI).toFixed(0)}°`);
+    const build = () => [...this.nodesOf(els)].flatMap((id) => {
       const place = this.shapes.positionOf(id);
       return place ? moveNode(id, turnedBy([place], angle, round)[0], this.elements) : [];
-    }));
+    });
+    return this.perform(`turned ${this.titles(els)}`, build, undefined, undefined, { sight, claims: [claim] });
   }
 
   /** Copies what is selected, but not relations. */
@@ -707,13 +796,17 @@ class Page {
     const text = `gave ${this.titles(els)} the tags ${tags}`;
     /** @type {string[]} */
     let replaced = [];
+    const rows = new Map(this.rowsOf(els).map((row) => [row.el, row]));
+    /** @type {(el: string, key: string) => string | null} */
+    const seen = (el, key) => valueOf(rows.get(el) ?? null, key);
+    const claims = Claims.tags(this.copies.pasteTags([...rows.values()], []), seen, () => this.elements);
     const build = () => {
       replaced = [];
-      return this.copies.pasteTags(this.rowsOf(els), replaced);
+      return Claims.withoutLeft(this.copies.pasteTags(this.rowsOf(els), replaced), claims);
     };
     return this.perform(text, build, (_, report) => {
       if (replaced.length) report(`Saved: ${text}, in place of ${replaced.join(", ")}.`);
-    });
+    }, undefined, { claims });
   }
 
   /**
@@ -775,22 +868,26 @@ class Page {
   }
 
   /**
-   * @param {MapElement} row
+   * Moves a node to typed coordinates. `seen` has the node as the mapper saw it when they began to type.
+   * @param {MapNode} row
    * @param {string} lat
    * @param {string} lon
+   * @param {{ sight?: Sight, seen?: MapNode[] }} before
    */
-  moveTo(row, lat, lon) {
+  moveTo(row, lat, lon, { sight, seen = this.nodeRowsOf([row.el]) } = {}) {
     const [north, east] = [degreesOf(lat, 90), degreesOf(lon, 180)];
     if (north === null) return this.sayWrong("The latitude is a number from -90 to 90, such as 47.1234567.");
     if (east === null) return this.sayWrong("The longitude is a number from -180 to 180, such as 9.5212345.");
     /** @param {number} degrees */
     const steps = (degrees) => Math.round(degrees * 1e7);
+    const claim = this.claimPlace(row.el, seen, `${lat}, ${lon}`);
     this.perform(`moved ${titleOf(row)}`, () => {
       const now = this.elements.get(row.el);
       if (!now?.lat) throw new NotDone("gone");
       const [dlat, dlon] = [steps(north - Number(now.lat)), steps(east - Number(now.lon))];
       return [{ do: "move", els: [row.el], dlat, dlon }];
-    });
+    }, undefined, undefined, { sight, claims: [claim] });
+    return undefined;
   }
 
   /**

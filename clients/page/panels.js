@@ -43,6 +43,8 @@ class Panels {
     this.isShowing = false;
     this.isListOpen = false;
     this.mostFound = MOST_SHOWN;
+    /** @type {Map<string, Sight>} */
+    this.sights = new Map(); // what the mapper saw when they began to type in a field, by its name
     /** @type {Map<string, SearchText> | null} */
     this.texts = null; // what is looked through, by the names of the elements
   }
@@ -91,6 +93,7 @@ class Panels {
     const box = $("selected");
     const focus = !isAnew && this.formOf === key ? this.focusIn(box) : null;
     const values = focus ? this.unsavedFields(box) : [];
+    if (values.length === 0) this.sights.clear();
     this.formOf = key;
     this.isShowing = true;
     if (rows.length === 0) box.replaceChildren(soft("p", this.page.session?.room ? CHOOSE : CONNECT));
@@ -167,7 +170,9 @@ class Panels {
     const fieldOf = (its) => box.querySelector(`[data-field="${CSS.escape(its)}"]`);
     for (const [its, value, before] of values) {
       const field = fieldOf(its);
-      if (field) Object.assign(field, { value }).dataset.before = before;
+      if (!field) continue;
+      Object.assign(field, { value }).dataset.before = before;
+      this.markTheirs(field, its, before);
     }
     if (at === undefined) return;
     const same = name ? fieldOf(name) : this.fieldsIn(box, tag)[at];
@@ -176,6 +181,38 @@ class Panels {
     field?.focus({ preventScroll: true });
     const isText = field instanceof HTMLInputElement || field instanceof HTMLTextAreaElement;
     if (isText && typeof start === "number") field.setSelectionRange(start, end ?? start);
+  }
+
+  /**
+   * Marks a field in which the mapper types and whose value somebody else changed.
+   * @param {TaggedField} field
+   * @param {string} name
+   * @param {string} before
+   */
+  markTheirs(field, name, before) {
+    const { session, selected: [el] } = this.page;
+    const sight = this.sights.get(name);
+    if (!session || !sight || field.defaultValue === before) return;
+    const changes = session.newsAfter(sight)?.filter(({ rows }) => rows.some((row) => row.el === el)) ?? [];
+    if (changes.length === 0) return; // it was the mapper's own change
+    field.classList.add("disputed");
+    const text = `${changes.at(-1)?.by ?? "Somebody"} changed this to: ${field.defaultValue || "nothing"}`;
+    field.closest("label, .member")?.append(make("p", { className: "theirs", textContent: text, role: "status" }));
+  }
+
+  /**
+   * Gives a field its name, and notes what the mapper sees when they begin to type in it.
+   * @template {HTMLInputElement | HTMLTextAreaElement} Field
+   * @param {Field} field
+   * @param {string} name
+   */
+  named(field, name) {
+    field.dataset.field = name;
+    field.oninput = () => {
+      const { session } = this.page;
+      if (session && !this.sights.has(name)) this.sights.set(name, session.sight());
+    };
+    return field;
   }
 
   /** @param {MapElement[]} rows */
@@ -241,8 +278,7 @@ class Panels {
    * @returns {[HTMLInputElement, HTMLLabelElement]}
    */
   field(label, value, properties = {}) {
-    const input = make("input", { defaultValue: value, size: 13, ...properties });
-    input.dataset.field = label;
+    const input = this.named(make("input", { defaultValue: value, size: 13, ...properties }), label);
     return [input, make("label", {}, label, input)];
   }
 
@@ -252,8 +288,13 @@ class Panels {
     const [lat, latLabel] = this.field("Latitude", row.lat, { inputMode: "decimal" });
     const [lon, lonLabel] = this.field("Longitude", row.lon, { inputMode: "decimal" });
     const ways = page.rowsOf(page.shapes.usersOf(row.el)).flatMap((way) => (way.nodes ? [way] : []));
+    const move = () => {
+      const sight = this.sights.get("Latitude") ?? this.sights.get("Longitude");
+      const seen = [{ ...row, lat: this.before(lat), lon: this.before(lon) }];
+      page.moveTo(row, lat.value, lon.value, { sight, seen });
+    };
     return [
-      line(latLabel, lonLabel, button("Move to", () => page.moveTo(row, lat.value, lon.value))),
+      line(latLabel, lonLabel, button("Move to", move)),
       line(...this.splitButtons(row, ways), ...this.unglueButtons(row, ways), ...this.mergeButtons(row)),
     ];
   }
@@ -331,8 +372,7 @@ class Panels {
       const joined = [...new Set(next)].filter((el) => el !== row.el);
       buttons.push(...joined.slice(0, 4).map((el) => button(`Join ${el}`, () => page.join(row.el, el))));
     }
-    const list = make("textarea", { defaultValue: nodes.join(" "), rows: 2 });
-    list.dataset.field = "Nodes";
+    const list = this.named(make("textarea", { defaultValue: nodes.join(" "), rows: 2 }), "Nodes");
     const save = button("Save nodes", () => page.saveNodes(row.el, list.value, this.before(list)));
     const details = make("details", {}, make("summary", { textContent: counted(nodes.length, "node") }),
       make("label", {}, "Their numbers in order", list), save);
@@ -368,28 +408,31 @@ class Panels {
    */
   memberLine(row, el, role, at, time) {
     const { page } = this;
+    const key = `role ${el} ${time}`;
+    const isOnce = row.members.filter(([name]) => name === el).length === 1;
     /**
      * @param {string} what
-     * @param {...Member} changed
+     * @param {Member[]} changed
+     * @param {Grounds} [grounds]
      */
-    const change = (what, ...changed) => page.perform(`${what} in ${titleOf(row)}`, () => {
+    const change = (what, changed, grounds) => page.perform(`${what} in ${titleOf(row)}`, () => {
       const { members } = relationOf(row.el, page.elements);
       const place = placeIn(members.map(([name]) => name), el, at);
       const others = [...members.slice(0, place), ...changed, ...members.slice(place + 1)];
       return [{ do: "members", el: row.el, members: others }];
-    });
+    }, undefined, undefined, grounds);
     const about = { label: `Role of ${el}`, placeholder: "role", maxLength: 255 };
-    const field = make("input", { defaultValue: role, ...about });
-    field.dataset.field = `role ${el} ${time}`;
+    const field = this.named(make("input", { defaultValue: role, ...about }), key);
     let saved = role;
     const save = () => {
       if (this.isShowing || field.value === saved) return;
+      const claims = isOnce ? [Claims.role(row.el, el, this.before(field), field.value, () => page.elements)] : [];
       saved = field.value;
-      change("set a role", [el, saved]);
+      change("set a role", [[el, saved]], { sight: this.sights.get(key), claims });
     };
     // A field in which the text was put back does not change when it loses the focus.
     field.onchange = field.onblur = save;
-    const remove = button("×", () => change(`removed ${el}`), { label: `Remove ${el}` });
+    const remove = button("×", () => change(`removed ${el}`, []), { label: `Remove ${el}` });
     return make("div", { className: "member" }, this.elementButton(el), field, remove);
   }
 
@@ -494,7 +537,7 @@ class Panels {
     const author = make("b", { textContent: session.subjectOf(entry) });
     const text = make("span", {}, `${entry.seq} `, author, ` ${session.deed(entry)} `, timeOf(entry.at));
     const go = button("Go", () => page.showEntry(entry), { label: `Go to entry ${entry.seq} on the map` });
-    const item = make("li", {}, dotOf(entry.by), text, go);
+    const item = make("li", {}, dotOf(entry.by), text, ...(entry.rows.length ? [go] : []));
     item.classList.toggle("blocks", entry.seq === session.conflict?.with);
     item.dataset.seq = String(entry.seq);
     return item;
@@ -538,7 +581,7 @@ class Panels {
     const text = make("span", {}, author, ` ${session.deed(entry)} `, timeOf(entry.at));
     const who = entry.by === session.name ? "you were" : `${entry.by} was`;
     const go = button("Go", () => this.page.showEntry(entry), { label: `Go to where ${who} last` });
-    return make("li", {}, dotOf(entry.by), text, go);
+    return make("li", {}, dotOf(entry.by), text, ...(entry.rows.length ? [go] : []));
   }
 
   // ---- Find

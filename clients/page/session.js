@@ -33,12 +33,17 @@ const SLOW = 4000; // milliseconds after which the page says that no answer came
 const FIRST_PAUSE = 500;
 const LONGEST_PAUSE = 10_000;
 const MOST_ENTRIES = 1000; // that are remembered
-const MOST_TRIES = 20; // of names for new elements
+const MOST_KEPT = 50; // of which the last changes are shown again after a reload
+const STORE_AFTER = 1000; // milliseconds
+const MOST_TRIES = 20; // of a gesture, with other names or after changes of others
 const MOST_ACTIONS = 10_000; // of a group
 const LEAST_ID = -(2 ** 52);
 
 // A change that ends for one of these reasons is dropped, whether or not it had to wait for a connection.
 const DROPS = new Set(["not_sent", "unknown", "no_answer", "not_meant", "gone", "other_nodes"]);
+
+// A gesture that ends for one of these reasons leaves the map as the mapper wanted it.
+const AS_WANTED = new Set(["nothing", "left", "turned"]);
 
 /**
  * Why a WebSocket cannot be opened. The browser does not say, so the page asks over HTTP at the same address. The
@@ -84,6 +89,11 @@ async function whyUnreachable(url) {
   const why = location.protocol === "file:" ? "since the page was opened as a file" : "since it is from another site";
   return `${host} answers, but does not let this page in, perhaps ${why}.${page}`;
 }
+
+/**
+ * What a gesture rests on: what the mapper had seen when they decided, and the values that it sets.
+ * @typedef {{ sight?: Sight, claims?: Claim[] }} Grounds
+ */
 
 /** @param {number} milliseconds */
 const pauseOf = (milliseconds) => new Promise((done) => setTimeout(done, milliseconds));
@@ -150,6 +160,13 @@ class Session extends EventTarget {
     this.run = 0; // how often the server was restarted
     this.doubts = 0; // how often it was perhaps restarted
     this.switches = 0; // how often the connection went or came
+    /** @type {{ by: string | null, rows: ChangedRow[] }[]} */
+    this.news = []; // the last changes, those of a gap together and without an author
+    this.marks = 0; // how many of them came in all
+    /** @type {Sight | null} */
+    this.seen = null; // what was shown last
+    /** @type {(disputes: Dispute[]) => Promise<void>} */
+    this.choose = () => Promise.reject(new NotDone("changed")); // asks the mapper
     this.hasLeft = false; // whether the mapper left
     this.turn = Promise.resolve(true); // whether the last change was done
     /** @type {(() => void)[]} */
@@ -158,6 +175,8 @@ class Session extends EventTarget {
     this.lowest = null;
     /** @type {number | undefined} */
     this.slowTimer = undefined;
+    /** @type {number | undefined} */
+    this.storeTimer = undefined;
     this.leaving = new AbortController();
     this.key = `maproom ${url} ${roomName} ${name}`;
   }
@@ -287,8 +306,9 @@ class Session extends EventTarget {
   // ---- What comes
 
   /** @param {maproom.ResetEvent} event */
-  takeReset({ restarted }) {
+  takeReset({ restarted, rows }) {
     this.lowest = null;
+    this.note(null, rows);
     if (restarted !== false) {
       this.doubts += 1;
       this.putLists([], []);
@@ -312,10 +332,12 @@ class Session extends EventTarget {
   takeChange({ seq, by, rows }) {
     const entry = { seq, by, rows, at: new Date(), text: "", isUndone: false, undoes: null, redoes: null };
     this.recognize(entry);
+    this.note(by, rows);
     this.entries.set(seq, entry);
     if (this.entries.size > MOST_ENTRIES) this.entries.delete(this.entries.keys().next().value);
     for (const { el } of rows) this.learnName(el);
     this.report("change", { entry, rows });
+    this.storeTimer ??= setTimeout(() => this.store(), STORE_AFTER);
     this.lookAtConflict(rows);
     if (by === this.name && this.unsaved === 0) this.askUndos();
   }
@@ -409,6 +431,76 @@ class Session extends EventTarget {
     if (isGone || this.entries.get(conflict.seq)?.isUndone) this.setConflict(null);
   }
 
+  // ---- What the mapper has seen
+
+  /**
+   * Notes a change.
+   * @param {string | null} by
+   * @param {ChangedRow[]} rows
+   */
+  note(by, rows) {
+    this.news.push({ by, rows });
+    this.marks += 1;
+    if (this.news.length > MOST_ENTRIES) this.news.shift();
+  }
+
+  /**
+   * All that has come.
+   * @returns {Sight}
+   */
+  now() {
+    return { session: this, since: this.room?.seq ?? 0, mark: this.marks, doubts: this.doubts };
+  }
+
+  /** What the mapper has seen: what was shown, and not what has come and waits to be painted. */
+  sight() {
+    return this.seen ?? this.now();
+  }
+
+  /**
+   * Whether the numbers of entries in a sight are those of this run of the server.
+   * @param {Sight} sight
+   */
+  isOfThisRun({ session, doubts }) {
+    return session === this && doubts === this.doubts;
+  }
+
+  /**
+   * What others changed after a sight, or null if that is too long ago.
+   * @param {Sight} sight
+   */
+  newsAfter({ session, mark }) {
+    const count = this.marks - mark;
+    if (session !== this || count > this.news.length) return null;
+    return this.news.slice(this.news.length - count).filter(({ by }) => by !== this.name);
+  }
+
+  /**
+   * The values among some that others changed after a sight, to something else than the mapper wants. If the sight is
+   * too long ago, the values alone decide, and nobody knows whose they are.
+   * @template {Claim} AnyClaim
+   * @param {AnyClaim[]} claims
+   * @param {Sight} sight
+   * @returns {(Dispute & { claim: AnyClaim })[]}
+   */
+  disputes(claims, sight) {
+    const news = this.newsAfter(sight);
+    return claims.filter(({ isLeft }) => !isLeft).flatMap((claim) => {
+      const changes = (news ?? []).filter(({ rows }) => rows.some(claim.isOf));
+      if (news && !claim.isTouched(changes.flatMap(({ rows }) => rows.filter(claim.isOf)))) return [];
+      const theirs = claim.theirs();
+      return theirs === null ? [] : [{ claim, by: changes.at(-1)?.by ?? null, theirs }];
+    });
+  }
+
+  /**
+   * Who changed something last, of which `isOf` knows the rows: the mapper too, or null if nobody knows.
+   * @param {(row: ChangedRow) => boolean} isOf
+   */
+  lastToChange(isOf) {
+    return [...this.news].reverse().find(({ rows }) => rows.some(isOf))?.by ?? null;
+  }
+
   // ---- Names of new elements
 
   /** The lowest ids are looked up when the first name is wanted. */
@@ -436,35 +528,67 @@ class Session extends EventTarget {
   // ---- What is done
 
   /**
-   * Does a gesture: `build` gets a function that gives names, and returns the actions. Returns the names that were
-   * given, or throws what refused it.
+   * Does a gesture: `build` gets a function that gives names, and returns the actions. If others changed the same
+   * meanwhile, it is done on the map as it is now. The mapper is asked for the values that others changed, too. Returns
+   * the names that were given, or throws what refused it.
    * @param {string} text
    * @param {Build} build
+   * @param {Grounds} grounds
    * @returns {Promise<string[]>}
    */
-  async perform(text, build) {
+  async perform(text, build, { sight = this.sight(), claims = [] } = {}) {
     if (!this.room) throw new Error("Connect first.");
-    return this.inTurn(text, async () => {
-      for (let tries = 1; ; tries += 1) {
-        /** @type {string[]} */
-        const names = [];
-        const actions = this.build(build, names);
-        try {
-          this.remember(await this.send(actions), text);
-          return names;
-        } catch (thrown) {
-          const error = /** @type {Failure} */ (thrown);
-          // Somebody else was quicker with a name.
-          if (error.why !== "present" || !names.includes(error.no?.el ?? "") || tries === MOST_TRIES) throw error;
-        }
+    const { run, doubts, unsaved } = this;
+    const decision = { sight, claims };
+    return this.count(text, async () => {
+      for (; ;) {
+        const { names, disputes } = await this.takeTurn({ run, doubts, unsaved, isOfEntries: false },
+          () => this.attempt(text, build, decision));
+        if (disputes.length === 0) return names;
+        await this.choose(disputes);
+        const left = claims.find(({ isLeft, isPart }) => isLeft && !isPart);
+        if (left) throw new NotDone("left");
       }
     });
   }
 
   /**
-   * Does a change when those before it are answered and there is a connection, so that it fits a map that has them.
-   * `work` gets whether the change before it was done, or true if none was under way when this one was wanted. A change
-   * is not done if the server was restarted since then; one about entries is not done if that is only possible.
+   * Tries a gesture until the room takes it, or the mapper has to choose values.
+   * @param {string} text
+   * @param {Build} build
+   * @param {{ sight: Sight, claims: Claim[] }} decision
+   * @returns {Promise<{ names: string[], disputes: Dispute[] }>}
+   */
+  async attempt(text, build, decision) {
+    const { claims } = decision;
+    let mustReview = !this.isOfThisRun(decision.sight);
+    /** @type {string[]} */
+    let spare = []; // names that the room did not take
+    for (let tries = 1; ; tries += 1) {
+      /** @type {string[]} */
+      const names = [];
+      if (mustReview) {
+        const disputes = this.disputes(claims, decision.sight);
+        decision.sight = this.now();
+        if (disputes.length) return { names, disputes };
+      }
+      const actions = this.build(build, names, spare, claims);
+      try {
+        this.remember(await this.send(actions, decision.sight.since), text);
+        return { names, disputes: [] };
+      } catch (thrown) {
+        const error = /** @type {Failure} */ (thrown);
+        mustReview = isStale(error);
+        // Somebody else was quicker with a name.
+        const isTaken = error.why === "present" && names.includes(error.no?.el ?? "");
+        spare = isTaken ? [] : names;
+        if ((!mustReview && !isTaken) || tries === MOST_TRIES) throw error;
+      }
+    }
+  }
+
+  /**
+   * Does a change in its turn, and counts it as not saved.
    * @template T
    * @param {string} text
    * @param {(isLastDone: boolean) => Promise<T>} work
@@ -472,29 +596,47 @@ class Session extends EventTarget {
    */
   inTurn(text, work, isOfEntries = false) {
     const { run, doubts, unsaved } = this;
+    const done = this.takeTurn({ run, doubts, unsaved, isOfEntries }, work);
+    return this.count(text, () => done);
+  }
+
+  /**
+   * Does a change when those before it are answered and there is a connection, so that it fits a map that has them.
+   * `work` gets whether the change before it was done, or true if none was under way when this one was wanted. A change
+   * is not done if the server was restarted since then; one about entries is not done if that is only possible.
+   * @template T
+   * @param {{ run: number, doubts: number, unsaved: number, isOfEntries: boolean }} when
+   * @param {(isLastDone: boolean) => Promise<T>} work
+   * @returns {Promise<T>}
+   */
+  takeTurn({ run, doubts, unsaved, isOfEntries }, work) {
     const done = this.turn.then(async (wasDone) => {
       await this.whenOpen();
       const restarted = run !== this.run;
       if (restarted || (isOfEntries && doubts !== this.doubts)) throw new NotDone("not_sent", { restarted });
       return work(wasDone || unsaved === 0);
     });
-    this.turn = done.then(() => true, () => false);
-    return this.count(text, () => done);
+    this.turn = done.then(isDone, () => false);
+    return done;
   }
 
   /**
-   * The actions of a gesture for the map as it is now, and the names that it gives.
+   * The actions of a gesture for the map as it is now, and the names that it gives: first those that are `spare`.
    * @param {Build} build
    * @param {string[]} names
+   * @param {string[]} spare
+   * @param {Claim[]} claims
    */
-  build(build, names) {
+  build(build, names, spare, claims) {
+    const free = spare.filter((el) => !this.elements.has(el));
     /** @param {Kind} kind */
     const newName = (kind) => {
-      names.push(this.newName(kind));
+      const at = free.findIndex((el) => el[0] === kind);
+      names.push(at < 0 ? this.newName(kind) : free.splice(at, 1)[0]);
       return lastOf(names);
     };
     const actions = build(newName);
-    if (actions.length === 0) throw new NotDone("nothing");
+    if (actions.length === 0) throw new NotDone(claims.some(({ isLeft }) => isLeft) ? "left" : "nothing");
     const nodesOf = (/** @type {maproom.Message} */ { nodes }) => /** @type {number[]} */(nodes ?? []);
     if (!actions.every((action) => areSafe(nodesOf(action)))) throw new NotDone("unsafe");
     return actions;
@@ -536,7 +678,7 @@ class Session extends EventTarget {
    */
   isDropped({ why = "" }, switches) {
     const hasWaited = switches !== this.switches && !this.hasLeft;
-    return DROPS.has(why) || (hasWaited && why !== "nothing");
+    return DROPS.has(why) || (hasWaited && !AS_WANTED.has(why));
   }
 
   /** Says that the server does not answer, if an answer is awaited for long. */
@@ -551,17 +693,18 @@ class Session extends EventTarget {
   }
 
   /**
-   * Sends the actions of a gesture as one group or, if the server knows no groups, one by one. Returns the numbers of
-   * the entries.
+   * Sends the actions of a gesture as one group or, if the server knows no groups, one by one. `since` is the entry up
+   * to which the mapper had seen the map. Returns the numbers of the entries.
    * @param {maproom.Message[]} actions
+   * @param {number} since
    * @returns {Promise<number[]>}
    */
-  async send(actions) {
+  async send(actions, since) {
     if (actions.length > MOST_ACTIONS) throw new Error("That is more than can be done at once. Do it in parts.");
-    if (actions.length === 1) return [await this.change(actions[0])];
+    if (actions.length === 1) return [await this.change(actions[0], since)];
     if (this.hasGroups !== false) {
       try {
-        const seq = await this.change({ do: "group", actions });
+        const seq = await this.change({ do: "group", actions }, since);
         this.hasGroups = true;
         return [seq];
       } catch (thrown) {
@@ -570,27 +713,29 @@ class Session extends EventTarget {
         this.hasGroups = false;
       }
     }
-    return this.sendEach(actions);
+    return this.sendEach(actions, since);
   }
 
   /**
    * Sends a change. Returns the number of its entry.
    * @param {maproom.Message} message
+   * @param {number} since
    */
-  async change(message) {
-    return /** @type {number} */ ((await this.joinedRoom.ask(message)).seq);
+  async change(message, since) {
+    return /** @type {number} */ ((await this.joinedRoom.ask({ ...message, since })).seq);
   }
 
   /**
    * Does one action after another. If one is refused, those before it are undone.
    * @param {maproom.Message[]} actions
+   * @param {number} since
    * @returns {Promise<number[]>}
    */
-  async sendEach(actions) {
+  async sendEach(actions, since) {
     /** @type {number[]} */
     const seqs = [];
     try {
-      for (const action of actions) seqs.push(await this.change(action));
+      for (const action of actions) seqs.push(await this.change(action, since));
       return seqs;
     } catch (thrown) {
       const error = /** @type {Failure} */ (thrown);
@@ -746,12 +891,16 @@ class Session extends EventTarget {
     }, true);
   }
 
-  // ---- What outlives a reload: what the mapper's own entries did
+  // ---- What outlives a reload: what the mapper's own entries did, and the last changes of all
 
   store() {
+    clearTimeout(this.storeTimer);
+    this.storeTimer = undefined;
     const entries = [...this.texts].slice(-300).map(([seq, text]) => [seq, text, this.gestures.get(seq)]);
+    const changes = [...this.entries.values()].slice(-MOST_KEPT)
+      .map((entry) => [entry.seq, entry.by, this.deed(entry), entry.at.getTime()]);
     try {
-      localStorage.setItem(this.key, JSON.stringify({ seq: this.joinedRoom.seq, entries }));
+      localStorage.setItem(this.key, JSON.stringify({ seq: this.joinedRoom.seq, entries, changes }));
     } catch {
       // Without storage a reload forgets what entries did.
     }
@@ -763,7 +912,10 @@ class Session extends EventTarget {
    * @param {number[]} undos
    */
   restore(undos) {
-    /** @type {{ seq: number, entries: [seq: number, text: string, gesture?: Gesture][] } | null} */
+    /**
+     * @type {{ seq: number, entries: [seq: number, text: string, gesture?: Gesture][],
+     *   changes?: [seq: number, by: string, text: string, at: number][] } | null}
+     */
     let kept = null;
     try {
       kept = JSON.parse(localStorage.getItem(this.key) ?? "null");
@@ -777,8 +929,36 @@ class Session extends EventTarget {
       this.texts.set(seq, text);
       this.gestures.set(seq, gesture ?? [seq]);
     }
+    this.restoreChanges(kept.changes ?? []);
+  }
+
+  /**
+   * Puts the changes of an earlier visit in front of those that came. What they changed is not known any more.
+   * @param {[seq: number, by: string, text: string, at: number][]} changes
+   */
+  restoreChanges(changes) {
+    const came = [...this.entries];
+    this.entries.clear();
+    for (const [seq, by, text, at] of changes) {
+      const about = { isUndone: false, undoes: null, redoes: null };
+      this.entries.set(seq, { seq, by, rows: [], at: new Date(at), text, ...about });
+    }
+    for (const [seq, entry] of came) this.entries.set(seq, entry);
   }
 }
+
+/**
+ * Whether what a change rests on is not the map of the room any more: others changed it, or the number of the entry up
+ * to which it was seen is that of another run of the server. A change that was not sent is not sent under that number.
+ * @param {Failure} error
+ */
+const isStale = ({ why, restarted }) => why === "changed" || why === "no_such" || (why === "not_sent" && !restarted);
+
+/**
+ * Whether a change that ended was done, and does not wait for the mapper's choice.
+ * @param {unknown} result
+ */
+const isDone = (result) => !(/** @type {{ disputes?: Dispute[] } | undefined} */ (result)?.disputes?.length);
 
 /**
  * Whether rows put each part that an entry changed where it was before it (or after it), and leave the rest.

@@ -3,9 +3,10 @@
 
 /**
  * A line of the form: a tag as it is typed, what it was when it was saved, and whether it is to be removed. Of several
- * elements a line `isMixed` if its values differ, or some elements do not have the key; its value is empty then.
+ * elements a line `isMixed` if its values differ, or some elements do not have the key; its value is empty then. A line
+ * that is typed has what the mapper saw then: in the room (`sight`), and of the elements (`seen`).
  * @typedef {{ key: string, value: string, was: { key: string, value: string } | null, isRemoved: boolean,
- *   isMixed?: boolean }} TagLine
+ *   isMixed?: boolean, sight?: Sight | null, seen?: MapElement[] }} TagLine
  */
 
 /**
@@ -37,7 +38,9 @@ class TagDraft {
     for (const [key, value] of tags) {
       const was = { key, value: value ?? "" };
       const isMixed = value === null;
-      const had = this.lines.find((each) => each.was?.key === key);
+      // Somebody else may have given the elements the key that a new line has.
+      const had = this.lines.find((each) => each.was?.key === key)
+        ?? this.lines.find((each) => !each.was && each.sight && each.key.trim() === key);
       if (!had) this.lines.push({ ...was, was, isRemoved: false, isMixed });
       else if (!this.isTyped(had)) Object.assign(had, { value: was.value, was, isMixed });
       else Object.assign(had, { was, isMixed });
@@ -51,12 +54,41 @@ class TagDraft {
   }
 
   /**
+   * Notes what the mapper sees when they begin to type in a line, and forgets it when nothing typed is left.
+   * @param {TagLine} line
+   * @param {Sight} sight
+   * @param {MapElement[]} rows
+   */
+  look(line, sight, rows) {
+    if (!this.isTyped(line)) line.sight = null;
+    else if (!line.sight) Object.assign(line, { sight, seen: rows });
+  }
+
+  /**
+   * The value of a key that the mapper saw when they typed it, or null.
+   * @param {string} el
+   * @param {string} key
+   */
+  seenValue(el, key) {
+    const typed = this.typed();
+    const line = typed.find((each) => each.was?.key === key) ?? typed.find((each) => each.key.trim() === key);
+    return valueOf(line?.seen?.find((row) => row.el === el) ?? null, key);
+  }
+
+  /** What the mapper saw when they typed the first of the lines. */
+  sight() {
+    const sights = this.typed().flatMap(({ sight }) => sight ?? []);
+    return sights.sort((one, other) => one.mark - other.mark)[0];
+  }
+
+  /**
    * Takes lines as saved, each with what it was when it was sent. What was typed in it since then stays.
    * @param {[each: TagLine, sent: TagLine][]} sent
    */
   settle(sent) {
     for (const [each, { key, value, isRemoved }] of sent) {
       each.was = isRemoved ? null : { key: key.trim(), value };
+      each.sight = null;
       if (each.key === key) each.key = key.trim();
       /** @param {TagLine} line */
       const isOther = ({ was }) => !was || was.key !== each.was?.key;

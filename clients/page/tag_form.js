@@ -81,9 +81,49 @@ class TagForm {
    * @param {TagLine} each
    */
   mark(made, draft, each) {
+    const { page } = this;
+    if (page.session) draft.look(each, page.session.sight(), page.rowsOf(draft.els));
     made.classList.toggle("typed", draft.isTyped(each));
     made.classList.toggle("removed", each.isRemoved);
+    this.markTheirs(made, draft, each);
     this.showTyped();
+  }
+
+  /**
+   * Marks a line in which the mapper types and that somebody else changed.
+   * @param {HTMLElement} made
+   * @param {TagDraft} draft
+   * @param {TagLine} each
+   */
+  markTheirs(made, draft, each) {
+    const { session } = this.page;
+    made.querySelector(".theirs")?.remove();
+    if (!session || !each.sight) return;
+    const keys = [each.was?.key, each.key.trim()];
+    const claims = this.claimsOf(draft).filter(({ key }) => keys.includes(key));
+    const [dispute] = session.disputes(claims, each.sight);
+    made.classList.toggle("disputed", Boolean(dispute));
+    if (!dispute) return;
+    const text = `${dispute.by ?? "Somebody"} changed this to: ${dispute.theirs}`;
+    made.append(make("p", { className: "theirs", textContent: text, role: "status" }));
+  }
+
+  /** @param {TagDraft} draft */
+  claimsOf(draft) {
+    const { page } = this;
+    /** @type {(el: string, key: string) => string | null} */
+    const seen = (el, key) => draft.seenValue(el, key);
+    return Claims.tags(this.retags([draft]), seen, () => page.elements);
+  }
+
+  /**
+   * The actions that save drafts.
+   * @param {TagDraft[]} drafts
+   */
+  retags(drafts) {
+    return this.changesOf(drafts).map(({ row: { el }, changes }) => (
+      { do: "retag", el, tags: Object.fromEntries(changes) }
+    ));
   }
 
   /**
@@ -174,15 +214,22 @@ class TagForm {
     }
     const words = [...new Set(changed.flatMap(({ changes }) => changes.map((tag) => tagText(...tag))))];
     const text = `tagged ${page.titles(changed.map(({ row }) => row.el))} with ${words.slice(0, 2).join(", ")}`;
-    const actions = changed.map(({ row: { el }, changes }) => ({ do: "retag", el, tags: Object.fromEntries(changes) }));
+    const actions = this.retags(drafts);
+    const claims = drafts.flatMap((draft) => this.claimsOf(draft));
+    const sights = drafts.flatMap((draft) => draft.sight() ?? []);
+    const [sight] = sights.sort((one, other) => one.mark - other.mark);
     /** @type {[draft: TagDraft, sent: [each: TagLine, sent: TagLine][]][]} */
     const sent = drafts.map((draft) => [draft, draft.typed().map((each) => [each, { ...each }])]);
-    const done = () => {
+    const settle = () => {
       for (const [draft, lines] of sent) draft.settle(lines);
-      this.show();
+      this.show(); // lines whose values the mapper left to others follow the map
     };
-    const isStillTyped = () => drafts.every((draft) => this.unsaved().includes(draft));
-    page.perform(text, () => actions, done, isStillTyped);
+    /** @param {Failure} error */
+    const failed = ({ why }) => {
+      if (why === "left") settle();
+      return drafts.every((draft) => this.unsaved().includes(draft));
+    };
+    page.perform(text, () => Claims.withoutLeft(actions, claims), settle, failed, { sight, claims });
   }
 
   /** @param {TagDraft} draft */

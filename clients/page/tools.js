@@ -1,5 +1,5 @@
-// The tools of the page: what clicks, drags and keys on the map do, what a drawing snaps to, and what is drawn over the
-// map. A drawing is the page's alone until it is finished.
+// The tools of the page: what clicks, drags and keys on the map do, and what a drawing snaps to. A drawing is not sent
+// before it is finished.
 "use strict";
 
 /**
@@ -12,10 +12,11 @@
  * @typedef {{ places: Place[], isArea: boolean, extend: string | null, isUnsaved: boolean, error: Failure | null,
  *   preset?: string }} Draft
  *
- * Elements that are dragged: which, their nodes, from where, how far, and the one node with the node or the segments
- * that it meets.
- * @typedef {{ els: string[], nodes: Set<number>, from: Position, dx: number, dy: number, single: string | null,
- *   onto?: string | null, joins?: Place | null, middle?: EndedSegment, turn?: Turn, box?: undefined }} Dragged
+ * Elements that are dragged: which, their nodes, from where, how far, what the mapper saw when the drag began, and the
+ * one node with the node or the segments that it meets.
+ * @typedef {{ els: string[], nodes: Set<number>, from: Position, dx: number, dy: number, sight: Sight,
+ *   seen: MapNode[], single: string | null, onto?: string | null, joins?: Place | null, middle?: EndedSegment,
+ *   turn?: Turn, box?: undefined }} Dragged
  *
  * With `middle`, a new node is dragged out of that segment. With `turn`, the elements are turned and not moved.
  *
@@ -39,7 +40,6 @@ const MOVE_KEYS = { ArrowLeft: [-1, 0], ArrowRight: [1, 0], ArrowUp: [0, -1], Ar
 const TOOL_KEYS = { v: "select", p: "point", l: "line", a: "area", m: "move", r: "rotate" };
 /** @type {Record<string, "square" | "circle" | "straighten">} */
 const SHAPE_KEYS = { q: "square", o: "circle", s: "straighten" };
-const FRESH_FOR = 4000; // milliseconds for which what others changed is marked
 
 /** @type {Record<"mouse" | "touch", Partial<Record<Tool | "again", string>>>} */
 const HINTS = {
@@ -90,8 +90,6 @@ class Tools {
     this.unsaved = []; // drawings that could not be saved, and come back after the one that is being drawn
     /** @type {Set<Dragged>} */
     this.moving = new Set(); // drags that ended and are not saved yet
-    /** @type {{ els: string[], by: string, until: number }[]} */
-    this.fresh = []; // what others changed a moment ago
     this.isSnapping = true;
   }
 
@@ -294,7 +292,9 @@ class Tools {
    */
   placeOn(segments, { x, y }) {
     return {
-      x, y, segments: segments.map(({ el, one, other, ends }) => ({ el, one, other, part: partOf({ x, y }, ends) })),
+      x, y, segments: segments.map(({ el, one, other, ends }) => (
+        { el, one, other, part: partOf({ x, y }, ends), isRoad: Boolean(this.page.elements.get(el)?.tags.highway) }
+      )),
     };
   }
 
@@ -400,8 +400,8 @@ class Tools {
     const segment = near.find((each) => each.el === el);
     if (!segment || !page.isInside) return page.select(el);
     const place = this.placeOn(near.filter((each) => this.isSameSegment(each, segment)), segment);
-    const text = `added a node to ${page.titles([el])}`;
-    return page.perform(text, (newName) => Edits.point(place, {}, page.elements, newName), ([made]) => made);
+    this.savePoint(`added a node to ${page.titles([el])}`, place, {});
+    return undefined;
   }
 
   /**
@@ -417,8 +417,27 @@ class Tools {
     }
     const tags = this.presetTags();
     this.use("select");
-    page.perform(`made a ${kindOf({ el: "n", tags })}`, (newName) => Edits.point(place, tags, page.elements, newName),
-      ([el]) => el);
+    this.savePoint(`made a ${kindOf({ el: "n", tags })}`, place, tags);
+  }
+
+  /**
+   * Makes a node at a place, and selects it or another element.
+   * @param {string} text
+   * @param {Place} place
+   * @param {Tags} tags
+   * @param {string} [chosen]
+   * @param {Sight} [sight]
+   */
+  savePoint(text, place, tags, chosen, sight) {
+    const { page } = this;
+    /** @type {LostJoint[]} */
+    let lost = [];
+    /** @param {NameGiver} newName */
+    const build = (newName) => Edits.point(place, tags, page.elements, page.shapes, newName, (lost = []));
+    return page.perform(text, build, ([el]) => {
+      page.sayLost(text, lost, "This node");
+      return chosen ?? el;
+    }, undefined, { sight });
   }
 
   /**
@@ -426,7 +445,7 @@ class Tools {
    * @returns {void}
    */
   addPlace(place) {
-    const { draft } = this;
+    const { draft, page: { shapes } } = this;
     if (!draft) return;
     const { places, isArea, extend } = draft;
     /**
@@ -438,7 +457,7 @@ class Tools {
     const isFirst = places.length > 2 && isSame(places[0], place);
     if (isFirst && !extend) return this.finish(true);
     if (places.length === 0 && !isArea && !extend && place.el) draft.extend = this.endOfSelected(place.el);
-    places.push({ ...place });
+    places.push(place.el ? { ...place, ways: [...shapes.usersOf(place.el)] } : { ...place });
     this.showDraft(draft);
   }
 
@@ -488,10 +507,18 @@ class Tools {
     this.use("select");
     const what = kindOf({ el: "w", tags });
     const text = extend ? `made ${extend} longer` : `drew a ${what} with ${counted(places.length, "point")}`;
+    /** @type {LostJoint[]} */
+    let lost = [];
     /** @param {NameGiver} newName */
-    const build = (newName) => Edits.way(places, { isClosed, tags, extend }, page.elements, newName);
+    const build = (newName) => {
+      lost = [];
+      return Edits.way(places, { isClosed, tags, extend, lost }, page.elements, page.shapes, newName);
+    };
     /** @param {string[]} names */
-    const done = (names) => extend ?? lastOf(names);
+    const done = (names) => {
+      page.sayLost(text, lost, "This line");
+      return extend ?? lastOf(names);
+    };
     page.perform(text, build, done, (error) => this.bringBack({ ...draft, error })).then((isSaved) => {
       this.sent.delete(draft);
       page.view.paintOverSoon();
@@ -553,23 +580,26 @@ class Tools {
     const { nodes } = wayOf(el, this.page.elements);
     const node = nodeOf(atStart ? nodes[0] : lastOf(nodes));
     const position = this.page.shapes.positionOf(node);
-    if (position) this.use("line", { places: [{ ...position, el: node }], extend: el });
+    const ways = [...this.page.shapes.usersOf(node)];
+    if (position) this.use("line", { places: [{ ...position, el: node, ways }], extend: el });
     this.page.view.show(this.page.shapes.boxOf(node));
   }
 
   /**
-   * The elements may have gone to which a drawing was joined: it keeps the places. It goes on with a way only as long
-   * as the way begins or ends at its first place.
+   * Whether a place is at a node or on a line that is there.
+   * @param {Place} place
    */
+  isJoined({ el = "", segments = [] }) {
+    const { elements } = this.page;
+    return elements.has(el) || segments.some((segment) => elements.has(segment.el));
+  }
+
+  /** A drawing goes on with a way only as long as the way begins or ends at its first place. */
   refreshDraft() {
     const { elements } = this.page;
     const { draft } = this;
     if (!draft) return;
     const { places, extend } = draft;
-    for (const place of places) {
-      if (place.el && !elements.has(place.el)) delete place.el;
-      if (place.segments) place.segments = place.segments.filter(({ el }) => elements.has(el));
-    }
     if (!extend || (places[0].el && Edits.endsAt(extend, idOf(places[0].el), elements))) return;
     draft.extend = null;
     this.showDraft(draft);
@@ -596,6 +626,17 @@ class Tools {
   }
 
   /**
+   * Notes what is dragged, and what the mapper sees as the drag begins.
+   * @param {Omit<Dragged, "dx" | "dy" | "sight" | "seen">} dragged
+   */
+  beginDrag(dragged) {
+    const { page } = this;
+    const seen = page.nodeRowsOf(dragged.els);
+    this.dragged = { dx: 0, dy: 0, sight: page.joinedSession.sight(), seen, ...dragged };
+    return true;
+  }
+
+  /**
    * Begins to drag a node: one that is selected or, with a mouse, one of a selected way, or one that is seen exactly
    * there.
    * @param {Position} at
@@ -608,8 +649,7 @@ class Tools {
     const isOfWay = page.shapes.usersOf(node.el).some((way) => page.selected.includes(way));
     const isHit = page.view.zoom >= 17 && node.distance * page.view.scale <= HIT && page.isInside;
     if (!page.selected.includes(node.el) && (isTouch || !(isOfWay || isHit))) return false;
-    this.dragged = { els: [node.el], nodes: new Set([idOf(node.el)]), from: at, dx: 0, dy: 0, single: node.el };
-    return true;
+    return this.beginDrag({ els: [node.el], nodes: new Set([idOf(node.el)]), from: at, single: node.el });
   }
 
   /**
@@ -636,8 +676,7 @@ class Tools {
     const { page } = this;
     const middle = this.middles().find((each) => distanceBetween(each, at) * page.view.scale <= HIT);
     if (!middle) return false;
-    this.dragged = { els: [middle.el], nodes: new Set(), from: at, dx: 0, dy: 0, single: null, middle };
-    return true;
+    return this.beginDrag({ els: [middle.el], nodes: new Set(), from: at, single: null, middle });
   }
 
   /**
@@ -650,8 +689,7 @@ class Tools {
     const el = this.find(point);
     if (!el || el[0] !== "w" || !page.selected.includes(el)) return false;
     const els = page.selected.filter((each) => each[0] !== "r");
-    this.dragged = { els, nodes: page.nodesOf(els), from: at, dx: 0, dy: 0, single: null };
-    return true;
+    return this.beginDrag({ els, nodes: page.nodesOf(els), from: at, single: null });
   }
 
   /** @param {Point} point */
@@ -665,8 +703,7 @@ class Tools {
     const isIn = at.x > box.west - margin && at.x < box.east + margin && at.y > box.north - margin
       && at.y < box.south + margin;
     if (els.length === 0 || !isIn) return false;
-    this.dragged = { els, nodes: page.nodesOf(els), from: at, dx: 0, dy: 0, single: null };
-    return true;
+    return this.beginDrag({ els, nodes: page.nodesOf(els), from: at, single: null });
   }
 
   /**
@@ -680,8 +717,7 @@ class Tools {
     if (nodes.size < 2) return false;
     const round = page.middleOf(els);
     const from = page.view.positionAt(point);
-    this.dragged = { els, nodes, from, dx: 0, dy: 0, single: null, turn: { round, angle: 0 } };
-    return true;
+    return this.beginDrag({ els, nodes, from, single: null, turn: { round, angle: 0 } });
   }
 
   /** @param {Point} point */
@@ -744,7 +780,12 @@ class Tools {
       this.selectBox(dragged);
       return;
     }
-    if (!dragged.els.every((el) => page.elements.has(el))) return;
+    const gone = dragged.els.find((el) => !page.elements.has(el));
+    if (gone) {
+      const by = page.joinedSession.lastToChange(({ el, after }) => el === gone && !after);
+      page.sayWrong(`Not done: ${by ?? "somebody"} deleted ${gone} while you dragged it.`);
+      return;
+    }
     this.moving.add(dragged);
     this.saveDrag(dragged).finally(() => {
       this.moving.delete(dragged);
@@ -756,18 +797,35 @@ class Tools {
    * @param {Dragged} dragged
    * @returns {Promise<unknown>}
    */
-  async saveDrag({ single, onto, joins, middle, turn, els, dx, dy }) {
+  async saveDrag({ single, onto, joins, middle, turn, els, dx, dy, sight, seen }) {
     const { page } = this;
-    if (turn) return page.rotate(els, turn.angle, turn.round);
-    if (middle) return this.saveMiddle(middle, dx, dy);
-    if (single && joins?.segments) {
-      const ways = page.titles([...new Set(joins.segments.map(({ el }) => el))]);
-      const build = () => Edits.moveOnto(single, joins, page.elements);
-      return page.perform(`joined ${single} to ${ways}`, build, () => single);
-    }
-    if (!onto) return this.moveBy(els, dx, dy);
+    if (turn) return page.rotate(els, turn.angle, turn.round, { sight, seen });
+    if (middle) return this.saveMiddle(middle, dx, dy, sight);
+    if (single && joins?.segments) return this.saveJoin(single, joins, sight, seen);
+    if (!onto) return this.moveBy(els, dx, dy, { sight, seen });
     const build = () => [{ do: "merge", el: onto, with: single }];
-    return page.perform(`joined ${single} to ${onto}`, build, () => onto);
+    return page.perform(`joined ${single} to ${onto}`, build, () => onto, undefined, { sight });
+  }
+
+  /**
+   * Joins the end of a line that was dragged onto segments.
+   * @param {string} node
+   * @param {Place} place
+   * @param {Sight} sight
+   * @param {MapNode[]} seen
+   */
+  saveJoin(node, place, sight, seen) {
+    const { page } = this;
+    const ways = page.titles([...new Set((place.segments ?? []).map(({ el }) => el))]);
+    const text = `joined ${node} to ${ways}`;
+    /** @type {LostJoint[]} */
+    let lost = [];
+    const build = () => Edits.moveOnto(node, place, page.elements, page.shapes, (lost = []));
+    const claims = [page.claimPlace(node, seen, `join it to ${ways}`)];
+    return page.perform(text, build, () => {
+      page.sayLost(text, lost, "This line");
+      return node;
+    }, undefined, { sight, claims });
   }
 
   /**
@@ -775,14 +833,14 @@ class Tools {
    * @param {EndedSegment} middle
    * @param {number} dx
    * @param {number} dy
+   * @param {Sight} sight
    */
-  saveMiddle({ el, one, other, x, y }, dx, dy) {
+  saveMiddle({ el, one, other, x, y }, dx, dy, sight) {
     const { page } = this;
     const ways = page.shapes.usersOf(one).filter((way) => page.shapes.usersOf(other).includes(way));
     const segments = ways.map((way) => ({ el: way, one, other, part: 0.5 }));
-    const place = { x: x + dx, y: y + dy, segments };
-    const text = `added a node to ${page.titles([el])}`;
-    return page.perform(text, (newName) => Edits.point(place, {}, page.elements, newName), () => el);
+    return this.savePoint(`added a node to ${page.titles([el])}`, { x: x + dx, y: y + dy, segments, isFree: true }, {},
+      el, sight);
   }
 
   /**
@@ -790,9 +848,10 @@ class Tools {
    * @param {string[]} els
    * @param {number} dx
    * @param {number} dy
+   * @param {{ sight?: Sight, seen?: MapNode[] }} before
    * @returns {Promise<boolean> | undefined}
    */
-  moveBy(els, dx, dy) {
+  moveBy(els, dx, dy, { sight, seen = this.page.nodeRowsOf(els) } = {}) {
     const { page } = this;
     const start = page.shapes.positionOf(page.elements.get(els[0])?.nodes?.[0] ?? els[0]);
     if (!start) return undefined;
@@ -801,7 +860,12 @@ class Tools {
     const dlat = steps(Mercator.lat(start.y + dy) - Mercator.lat(start.y));
     const dlon = steps(dx * 360);
     if (!dlat && !dlon) return undefined;
-    return page.perform(`moved ${page.titles(els)}`, () => [{ do: "move", els, dlat, dlon }]);
+    const mine = `moved by ${shiftText(start, { x: start.x + dx, y: start.y + dy })}`;
+    const claim = page.claimPlace(els[0], seen, mine);
+    const build = () => (
+      claim.isForced ? Edits.moveFrom(seen, dlat, dlon, page.elements) : [{ do: "move", els, dlat, dlon }]
+    );
+    return page.perform(`moved ${page.titles(els)}`, build, undefined, undefined, { sight, claims: [claim] });
   }
 
   /** @param {BoxDrag} dragged */
@@ -917,251 +981,5 @@ class Tools {
     const { page } = this;
     const els = page.selected.filter((el) => el[0] !== "r");
     if (els.length) page.rotate(els, ((right + down) * (isFar ? 10 : 1) * Math.PI) / 180, page.middleOf(els));
-  }
-
-  // ---- What is drawn over the map
-
-  /**
-   * @param {CanvasRenderingContext2D} context
-   * @param {Frame} frame
-   */
-  paintOver(context, frame) {
-    const { page } = this;
-    this.paintFresh(context, frame);
-    if (this.hovered) this.paintElement(context, frame, this.hovered, "rgba(21, 95, 168, .55)", 5);
-    for (const el of page.selected) this.paintElement(context, frame, el, "#d6006c", 3, true);
-    const blocked = page.session?.conflict?.at;
-    if (blocked) this.paintElement(context, frame, blocked, "#b3261e", 6);
-    for (const dragged of this.dragged ? [...this.moving, this.dragged] : this.moving) {
-      this.paintDragged(context, frame, dragged);
-    }
-    for (const draft of [...this.sent, ...this.unsaved]) this.paintDraft(context, frame, draft, null);
-    const isDrawing = this.draft || this.tool === "point";
-    const next = isDrawing && this.cursor ? this.snap(this.cursor) : null;
-    if (this.draft) this.paintDraft(context, frame, this.draft, next);
-    if (next) this.paintSnap(context, frame, next);
-    if (!this.dragged) this.paintMiddles(context, frame);
-    page.warnings.paint(context, frame);
-    if (page.isByKeys) this.paintCross(context);
-  }
-
-  /**
-   * @param {Position} position
-   * @param {Frame} frame
-   * @returns {[number, number]}
-   */
-  place({ x, y }, frame) {
-    return [x * frame.scale - frame.left, y * frame.scale - frame.top];
-  }
-
-  /**
-   * @param {CanvasRenderingContext2D} context
-   * @param {Frame} frame
-   * @param {string} el
-   * @param {string} colour
-   * @param {number} width
-   * @param {boolean} [hasNodes]
-   * @returns {void}
-   */
-  paintElement(context, frame, el, colour, width, hasNodes = false) {
-    const { shapes, elements } = this.page;
-    const row = elements.get(el);
-    if (!row) return undefined;
-    if (row.members) {
-      const members = row.members.filter(([name]) => name[0] !== "r");
-      return members.forEach(([name]) => this.paintElement(context, frame, name, colour, width));
-    }
-    context.strokeStyle = context.fillStyle = colour;
-    context.lineWidth = width;
-    context.lineJoin = context.lineCap = "round";
-    context.beginPath();
-    const way = shapes.ways.get(el);
-    if (way) {
-      shapes.trace(context, frame, way);
-      context.stroke();
-      if (hasNodes && frame.scale >= 2 ** 24) this.paintDirection(context, frame, way);
-      if (!hasNodes || frame.scale < 2 ** 24) return undefined;
-    }
-    for (const id of way ? new Set(row.nodes) : [idOf(el)]) {
-      const at = shapes.positionOf(id);
-      if (at) this.paintDot(context, this.place(at, frame), way ? 3 : 6, colour);
-    }
-    return undefined;
-  }
-
-  /**
-   * The arrows of a selected way show its direction, whether or not that means something.
-   * @param {CanvasRenderingContext2D} context
-   * @param {Frame} frame
-   * @param {WayShape} way
-   */
-  paintDirection(context, frame, way) {
-    context.beginPath();
-    traceArrows(context, this.page.shapes.pointsOf(way, frame), 1);
-    context.fill();
-  }
-
-  /**
-   * @param {CanvasRenderingContext2D} context
-   * @param {readonly [number, number]} point
-   * @param {number} radius
-   * @param {string} colour
-   */
-  paintDot(context, [x, y], radius, colour) {
-    context.beginPath();
-    context.arc(x, y, radius, 0, 7);
-    context.fillStyle = "#fff";
-    context.fill();
-    context.strokeStyle = colour;
-    context.lineWidth = 2.5;
-    context.stroke();
-  }
-
-  /**
-   * What others changed fades out in their colours.
-   * @param {CanvasRenderingContext2D} context
-   * @param {Frame} frame
-   */
-  paintFresh(context, frame) {
-    const now = performance.now();
-    this.fresh = this.fresh.filter(({ until }) => until > now);
-    for (const { els, by } of this.fresh) {
-      for (const el of els.slice(0, 200)) this.paintElement(context, frame, el, colourOf(by), 4);
-    }
-  }
-
-  /**
-   * @param {string[]} els
-   * @param {string} by
-   */
-  markFresh(els, by) {
-    this.fresh.push({ els, by, until: performance.now() + FRESH_FOR });
-    if (this.fresh.length > 20) this.fresh.shift();
-    setTimeout(() => this.page.view.paintOverSoon(), FRESH_FOR + 50);
-  }
-
-  /**
-   * @param {CanvasRenderingContext2D} context
-   * @param {Frame} frame
-   * @param {Dragged | BoxDrag} dragged
-   */
-  paintDragged(context, frame, dragged) {
-    const { page } = this;
-    context.strokeStyle = "#d6006c";
-    context.lineWidth = 2;
-    context.setLineDash([4, 4]);
-    if (dragged.box) {
-      const { box, to } = dragged;
-      context.strokeRect(box.x, box.y, to.x - box.x, to.y - box.y);
-      context.setLineDash([]);
-      return;
-    }
-    if (dragged.middle) {
-      const { ends: [one, other], x, y } = dragged.middle;
-      const to = { x: x + dragged.dx, y: y + dragged.dy };
-      this.paintLine(context, frame, [one, to, other]);
-      context.setLineDash([]);
-      this.paintDot(context, this.place(to, frame), 5, "#d6006c");
-      return;
-    }
-    /** @param {number} id */
-    const moved = (id) => {
-      const at = page.shapes.positionOf(id);
-      if (!at || !dragged.nodes.has(id)) return at;
-      const { turn, dx, dy } = dragged;
-      return turn ? turnedBy([at], turn.angle, turn.round)[0] : { x: at.x + dx, y: at.y + dy };
-    };
-    const ways = new Set([...dragged.nodes].flatMap((id) => page.shapes.usersOf(id)));
-    for (const el of [...ways].slice(0, 50)) {
-      this.paintLine(context, frame, (page.elements.get(el)?.nodes ?? []).flatMap((id) => moved(id) ?? []));
-    }
-    context.setLineDash([]);
-    for (const id of dragged.nodes) {
-      const at = moved(id);
-      if (at) this.paintDot(context, this.place(at, frame), dragged.onto || dragged.joins ? 8 : 5, "#d6006c");
-    }
-  }
-
-  /**
-   * @param {CanvasRenderingContext2D} context
-   * @param {Frame} frame
-   * @param {Position[]} places
-   */
-  paintLine(context, frame, places) {
-    context.beginPath();
-    for (const [index, place] of places.entries()) context[index ? "lineTo" : "moveTo"](...this.place(place, frame));
-    context.stroke();
-  }
-
-  /**
-   * @param {CanvasRenderingContext2D} context
-   * @param {Frame} frame
-   * @param {Draft} draft
-   * @param {Place | null} next
-   */
-  paintDraft(context, frame, { places, isArea, extend }, next) {
-    context.strokeStyle = "#d6006c";
-    context.lineWidth = 3;
-    context.setLineDash([2, 5]);
-    context.lineCap = "round";
-    const line = next ? [...places, next] : [...places];
-    if (isArea && line.length > 2) line.push(line[0]);
-    this.paintLine(context, frame, line);
-    context.setLineDash([]);
-    for (const place of places) {
-      this.paintDot(context, this.place(place, frame), place.el || place.segments ? 5 : 3.5, "#d6006c");
-    }
-    if (extend) this.paintElement(context, frame, extend, "rgba(214, 0, 108, .4)", 4);
-  }
-
-  /**
-   * Small handles in the middle of the segments of the selected way.
-   * @param {CanvasRenderingContext2D} context
-   * @param {Frame} frame
-   */
-  paintMiddles(context, frame) {
-    context.fillStyle = "#fff";
-    context.strokeStyle = "#d6006c";
-    context.lineWidth = 1.5;
-    context.beginPath();
-    for (const middle of this.middles()) {
-      const [x, y] = this.place(middle, frame);
-      context.rect(x - 3, y - 3, 6, 6);
-    }
-    context.fill();
-    context.stroke();
-  }
-
-  /**
-   * A ring where a click joins a node, a square where it joins a line.
-   * @param {CanvasRenderingContext2D} context
-   * @param {Frame} frame
-   * @param {Place} place
-   */
-  paintSnap(context, frame, place) {
-    if (!place.el && !place.segments) return;
-    const [x, y] = this.place(place, frame);
-    context.strokeStyle = "#155fa8";
-    context.lineWidth = 2.5;
-    context.beginPath();
-    if (place.el) context.arc(x, y, 9, 0, 7);
-    else context.rect(x - 7, y - 7, 14, 14);
-    context.stroke();
-  }
-
-  /**
-   * The middle, where the space bar clicks.
-   * @param {CanvasRenderingContext2D} context
-   */
-  paintCross(context) {
-    const { x, y } = this.page.view.middle();
-    context.strokeStyle = "#155fa8";
-    context.lineWidth = 1.5;
-    context.beginPath();
-    context.moveTo(x - 12, y);
-    context.lineTo(x + 12, y);
-    context.moveTo(x, y - 12);
-    context.lineTo(x, y + 12);
-    context.stroke();
   }
 }

@@ -7,6 +7,18 @@ const isRestriction = (/** @type {Tags} */ tags) => /^(restriction|connectivity)
 const isClosedWay = ({ nodes }) => nodes.length > 3 && nodes[0] === lastOf(nodes);
 
 /**
+ * Whether a list of nodes runs the other way than it did: the first and the last of its old nodes that it still has are
+ * in the other order. A closed way is compared by its second and its last but one.
+ * @param {number[]} before
+ * @param {number[]} after
+ */
+function isTurned(before, after) {
+  const list = after[0] === lastOf(after) ? after.slice(1, -1) : after;
+  const kept = before.filter((id) => list.includes(id));
+  return kept.length > 1 && list.indexOf(kept[0]) > list.indexOf(lastOf(kept));
+}
+
+/**
  * The action that gives a relation its members, or none if it has them.
  * @param {string} el
  * @param {Member[]} before

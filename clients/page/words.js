@@ -77,15 +77,39 @@ function deedTo({ before, after }) {
 }
 
 /**
- * What an entry did: “made Mill Lane, street w-1 and 3 nodes”.
- * @param {ChangedRow[]} rows
+ * Whether an entry moved a node, and did nothing else to it.
+ * @param {ChangedRow} row
  */
-function deedsOf(rows) {
+const isMove = (row) => row.after?.lat !== undefined && deedTo(row) === "moved";
+
+/**
+ * The ways of which an entry moved all nodes, so that mappers say that it moved the way.
+ * @param {ChangedRow[]} rows
+ * @param {Shapes} shapes
+ * @param {Elements} elements
+ */
+function movedWays(rows, shapes, elements) {
+  const moved = new Set(rows.filter(isMove).map(({ el }) => idOf(el)));
+  const users = new Set([...moved].flatMap((id) => shapes.usersOf(id)));
+  return [...users].flatMap((el) => {
+    const row = elements.get(el);
+    return row?.nodes?.every((id) => moved.has(id)) ? [row] : [];
+  });
+}
+
+/**
+ * What an entry did: “made Mill Lane, street w-1 and 3 nodes”. It does not name the nodes of `ways`, which it moved.
+ * @param {ChangedRow[]} rows
+ * @param {MapWay[]} ways
+ */
+function deedsOf(rows, ways = []) {
   /** @type {Lists<string, MapElement>} */
   const deeds = new Lists();
+  const nodes = new Set(ways.flatMap((way) => way.nodes.map(nodeOf)));
+  for (const way of ways) deeds.add("moved", way);
   for (const row of rows) {
     const element = row.after ?? row.before;
-    if (element) deeds.add(deedTo(row), element);
+    if (element && !(nodes.has(row.el) && isMove(row))) deeds.add(deedTo(row), element);
   }
   return [...deeds].map(([deed, elements]) => `${deed} ${listOf(elements)}`).join(", ") || "changed nothing";
 }
@@ -126,6 +150,9 @@ const REFUSALS = {
   too_many: (no) => `${no.el} would have more nodes, members or tags than it may.`,
   in_use: (no) => `${no.by} uses ${no.el}. “Delete everywhere” takes it out of ${no.by} too.`,
   nothing: () => "That would change nothing.",
+  changed: (no) => `Others go on changing ${no.el ?? "the same"}. Try again when they are done.`,
+  left: () => "It stays as the other mapper made it.",
+  turned: ({ el }) => `${el} was turned meanwhile, so it runs as you wanted.`,
   memory: () => "The server is out of memory. Try again later.",
   no_room: () => "The server has no room of this name.",
   bad_field: (no) => `The server does not accept this: “${no.field}” is missing, or is not of its form.`,

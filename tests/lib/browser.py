@@ -17,6 +17,14 @@ KEYS = {"Enter": 13, "Escape": 27, "Tab": 9, "ArrowLeft": 37, "ArrowUp": 38, "Ar
 KEYS |= {"Backspace": 8, "Delete": 46, " ": 32, "+": 187}
 
 
+def key_events(key: str, modifiers: int = 0) -> list[dict[str, Any]]:
+    """What the browser is asked to press a key, and to let it go."""
+    more = {"text": "\r"} if key == "Enter" else {"text": key} if len(key) == 1 and not modifiers else {}
+    code = KEYS.get(key, ord(key[0].upper()))
+    about = {"key": key, "windowsVirtualKeyCode": code, "modifiers": modifiers}
+    return [{"type": "keyDown", **about, **more}, {"type": "keyUp", **about}]
+
+
 @contextlib.contextmanager
 def browser(program: str, *options: str) -> Iterator[Browser]:
     """Starts a browser with these arguments, and ends it with the block."""
@@ -44,11 +52,15 @@ class Browser:
         self.client, self.number = client, 0
         self.pages: dict[str, Page] = {}
 
-    def ask(self, method: str, session: str | None = None, **how: Any) -> dict[str, Any]:
-        """Sends a request to the browser, or to a page by its session, and returns the answer."""
+    def tell(self, method: str, session: str | None = None, **how: Any) -> None:
+        """Sends a request to the browser, or to a page by its session, and does not wait for the answer."""
         self.number += 1
         about = {"sessionId": session} if session else {}
         self.client.say(json.dumps({"id": self.number, "method": method, "params": how, **about}))
+
+    def ask(self, method: str, session: str | None = None, **how: Any) -> dict[str, Any]:
+        """Sends a request to the browser, or to a page by its session, and returns the answer."""
+        self.tell(method, session, **how)
         while True:
             received = json.loads(self.client.read_kind(TEXT))
             if received.get("id") == self.number:
@@ -187,11 +199,8 @@ class Page:
 
     def press(self, key: str, modifiers: int = 0) -> None:
         """Presses a key."""
-        more = {"text": "\r"} if key == "Enter" else {"text": key} if len(key) == 1 and not modifiers else {}
-        code = KEYS.get(key, ord(key[0].upper()))
-        about = {"key": key, "windowsVirtualKeyCode": code, "modifiers": modifiers}
-        self.ask("Input.dispatchKeyEvent", type="keyDown", **about, **more)
-        self.ask("Input.dispatchKeyEvent", type="keyUp", **about)
+        for about in key_events(key, modifiers):
+            self.ask("Input.dispatchKeyEvent", **about)
 
     def fill(self, selector: str, text: str) -> None:
         """Replaces the text of a field by typing."""

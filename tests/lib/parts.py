@@ -61,6 +61,7 @@ SCRIPTS = [
     *benchmarks("server", "joins --elements 100 --clients 1,3"),
     *benchmarks("program", "turns --turns 1000"),
     *benchmarks("clients", "josm --changes 20 --elements 700 --rounds 1"),
+    *benchmarks("web", "page_races --races 6"),
     *scripts("server", "soak --seconds 5 --pace 20", "evening --seconds 5 --rooms 2 --pace 3"),
 ]
 

@@ -151,6 +151,24 @@ def quick_undos() -> None:
 
 
 @page_case
+def changes_of_an_earlier_visit() -> None:
+    """After a reload, the last changes of all are still listed, in words: a way of which all nodes moved was moved."""
+    with pages("anna") as (_, zoe, anna):
+        anna.get(tagged("7"))
+        zoe.ask({"id": 2, "do": "move", "els": ["w2"], "dlat": 100, "dlon": 0})
+        settled(anna).wait_text("#changes", "zoe moved building w2")
+        anna.wait("JSON.parse(localStorage.getItem(page.session.key)).changes?.length === 2")
+        anna.reload()
+        anna.wait("typeof page !== 'undefined' && page.background && !page.session")
+        connect(anna).wait_text("#changes", "2 zoe moved building w2")
+        anna.wait_text("#people", "zoe moved building w2")
+        anna.wait_text("#changes", "1 You tagged 7")
+        zoe.ask({"id": 3, "do": "retag", "el": "n4", "tags": {"height": "8"}})
+        anna.wait_text("#changes", "3 zoe changed the tags of 7, tree n4")
+        want(anna.get("[...$('changes').children].map((each) => each.dataset.seq)"), ["3", "2", "1"])
+
+
+@page_case
 def what_is_taken_back_is_said() -> None:
     """Each undo says what it undoes, also after a reload; it undoes a whole gesture."""
     with pages("anna") as (server, _, anna):
