@@ -76,6 +76,7 @@ module _ {R E F C P : Type 0} (fixed : R → F) (list : R → List E) (answers :
         record {
           now = now;
           legal = r.legal;
+          gates = r.gates;
           words = ap (λ (ws : List ℕ). slice_set ws 2 (slice_index ws 2)) r.words;
           order = r.order;
           parts = omega arith;

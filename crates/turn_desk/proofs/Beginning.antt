@@ -24,7 +24,7 @@ module _ {E F : Type 0} (f : F) where
         told = ([], refl);
         agrees = record {
           kin = All-more (λ k. entries_by k.0 (at_start E).log ≡ k.1) (0, []) [] refl (All-nil (λ k. entries_by k.0 (at_start E).log ≡ k.1));
-          apart = All-nil (λ k. k.0 ≢ 0);
+          apart = (All-nil (λ k. k.0 ≢ 0), tt);
           supply = λ n s. (refl, All-more (λ k. k.0 ≢ n) (0, []) [] (apart n s) (All-nil (λ k. k.0 ≢ n)));
           stride = omega arith;
         };
@@ -38,10 +38,11 @@ module _ {E F : Type 0} (f : F) where
   only_the_first (suc j) v at = absurd (some-ne-none v (sym at))
 
 module _ {R E F C P : Type 0} (fixed : R → F) (list : R → List E) (answers : F → List E → C → P → List E → Type 0) where
-  pub starts : (room : R) → list room ≡ [] → Kept fixed list answers (fixed room) (opening (0 ∷ 0 ∷ 0 ∷ []) (Some room ∷ []) (first_view (fixed room)))
-  starts room empty = record {
+  pub starts : (gates : List ℕ) (room : R) → list room ≡ [] → Kept fixed list answers (fixed room) (opening (0 ∷ 0 ∷ 0 ∷ gates) (Some room ∷ []) (first_view (fixed room)))
+  starts gates room empty = record {
     now = at_start E;
     legal = tt;
+    gates = gates;
     words = refl;
     order = omega arith;
     parts = omega arith;
@@ -51,7 +52,7 @@ module _ {R E F C P : Type 0} (fixed : R → F) (list : R → List E) (answers :
   }
 
   -- the same, if equations give the key and the slots
-  pub starts_with : (about room : R) (slots : List (Option R)) → about ≡ room → slots ≡ Some room ∷ [] → list room ≡ []
-      → Kept fixed list answers (fixed about) (opening (0 ∷ 0 ∷ 0 ∷ []) slots (first_view (fixed about)))
-  starts_with about room slots key laid empty =
-      subst (λ (x : R × List (Option R)). Kept fixed list answers (fixed x.0) (opening (0 ∷ 0 ∷ 0 ∷ []) x.1 (first_view (fixed x.0)))) (λ i. (sym key i, sym laid i)) (starts room empty)
+  pub starts_with : (gates : List ℕ) (about room : R) (slots : List (Option R)) → about ≡ room → slots ≡ Some room ∷ [] → list room ≡ []
+      → Kept fixed list answers (fixed about) (opening (0 ∷ 0 ∷ 0 ∷ gates) slots (first_view (fixed about)))
+  starts_with gates about room slots key laid empty =
+      subst (λ (x : R × List (Option R)). Kept fixed list answers (fixed x.0) (opening (0 ∷ 0 ∷ 0 ∷ gates) x.1 (first_view (fixed x.0)))) (λ i. (sym key i, sym laid i)) (starts gates room empty)

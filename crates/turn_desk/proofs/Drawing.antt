@@ -39,7 +39,8 @@ module _ {R E F C P : Type 0} (fixed : R → F) (list : R → List E) (answers :
         record {
           now = later;
           legal = r.legal;
-          words = ap (λ (ws : List ℕ). slice_set ws 1 ((slice_index ws 1 + 1) % 2 ^ 64)) r.words ∙ ap (λ (n : ℕ). length now.log ∷ n ∷ (now.served % 2 ^ 64) ∷ []) (mod-add-mod now.drawn (2 ^ 64) 1);
+          gates = r.gates;
+          words = ap (λ (ws : List ℕ). slice_set ws 1 ((slice_index ws 1 + 1) % 2 ^ 64)) r.words ∙ ap (λ (n : ℕ). length now.log ∷ n ∷ (now.served % 2 ^ 64) ∷ r.gates) (mod-add-mod now.drawn (2 ^ 64) 1);
           order = omega arith;
           parts = omega arith;
           home = λ none_turning. r.home (none_had_turn s.views id me.0 w at (subst (λ (st : Stage). ¬ HasTurn st) (sym idle) (λ h. h)) none_turning);

@@ -9,3 +9,5 @@ pub mod Looking
 pub mod Splitting
 pub mod Meeting
 pub mod Turning
+pub mod Many
+pub mod Ringing

@@ -1,9 +1,10 @@
 -- Lists: sums, entries under a number, beginnings, and legal histories.
 use Rattle.std.proofs.Common.{◌≡◌, ◌≢◌, ◌⊎◌, ℕ, Bool, true, false, if◌then◌else◌, zero, suc, ◌+◌, ◌≤◌, ◌==◌, eq-eqb, ne_eqb, List, [], ◌∷◌, ◌++◌, length, set, sym, refl, ap, ◌∙◌, subst, ⊎_elim, inl, inr, arith, append_assoc, All}
 use Rattle.std.proofs.lemmas.List.{append-nil, map-append}
+use Rattle.std.proofs.lemmas.List.Elements.{All-append}
 use mathlib.Core.Option.{some, some-injective, some-ne-none}
 use lib.ListN.{get_elem?}
-use Rattle.turn_desk.specs.History.{History, IsAmong, entries, entries_by, BeginsWith, MayFollow, MayAllFollow, IsLegal}
+use Rattle.turn_desk.specs.History.{History, AreApart, IsAmong, entries, entries_by, BeginsWith, MayFollow, MayAllFollow, IsLegal}
 use Rattle.turn_desk.specs.Rule.{total}
 
 module _ {A : Type 0} where
@@ -105,3 +106,12 @@ module _ {F E C P : Type 0} (answers : F → List E → C → P → List E → T
   -- a legal history with an entry that may follow is legal
   pub legal-one_more : (h : History E) (n : ℕ) (e : E) → IsLegal answers f h → MayFollow answers f (entries h) e → IsLegal answers f (h ++ (n, e) ∷ [])
   legal-one_more h n e legal may = subst (MayAllFollow answers f []) (sym (map-append (λ (p : ℕ × E). p.1) h ((n, e) ∷ []))) (follows-one_more [] (entries h) e legal may)
+
+module _ {E : Type 0} where
+  -- the numbers of both lists are apart if those of each are, and none of one is one of the other
+  pub apart-append : (xs ys : List (ℕ × List E)) → AreApart xs → AreApart ys → All (λ (k : ℕ × List E). All (λ (o : ℕ × List E). o.0 ≢ k.0) ys) xs → AreApart (xs ++ ys)
+  apart-append [] ys one two cross = two
+  apart-append (x ∷ xs) ys one two cross = (
+    All-append (λ (o : ℕ × List E). o.0 ≢ x.0) xs ys one.0 (All-head (λ (k : ℕ × List E). All (λ (o : ℕ × List E). o.0 ≢ k.0) ys) x xs cross),
+    apart-append xs ys one.1 two (All-tail (λ (k : ℕ × List E). All (λ (o : ℕ × List E). o.0 ≢ k.0) ys) x xs cross),
+  )

@@ -28,6 +28,7 @@ module _ {R E F C P : Type 0} (fixed : R → F) (list : R → List E) (answers :
         record {
           now = now;
           legal = r.legal;
+          gates = r.gates;
           words = ap (λ (ws : List ℕ). slice_set ws 0 (slice_index ws 0)) r.words;
           order = r.order;
           parts = omega arith;

@@ -17,7 +17,7 @@ use Rattle.turn_desk.specs.Inner.Steps.{IsAtRest}
 use Rattle.turn_desk.specs.declared.view.View.{View}
 use Rattle.turn_desk.specs.declared.view.Stage.{Stage}
 use Rattle.turn_desk.specs.declared.view.Stage.TheVariants.{Idle}
-use Rattle.turn_desk.proofs.Lists.{total-set, set_at, among_first, among_second, All-head}
+use Rattle.turn_desk.proofs.Lists.{total-set, set_at, among_first, among_second, All-head, All-tail, apart-append}
 use Rattle.turn_desk.proofs.Known.{Known, put, put_here, put_else, agrees_still, fits, same_ticket, known_still, none_had_turn}
 
 -- the owner of each number, after the numbers of `other` went to `id`
@@ -42,7 +42,11 @@ module _ {E F : Type 0} where
       let differ : (n m : ℕ) → now.owner n ≡ other → now.owner m ≡ id → n ≢ m = λ n m a b e. apart (sym a ∙ (ap now.owner e ∙ b)) in
       let own : now.owner v.number ≡ id = All-head (λ k. now.owner k.0 ≡ id) (v.number, v.mine) v.met it.kin in record {
         kin = All-append (λ k. entries_by k.0 now.log ≡ k.1) (kin_of v) (kin_of w) it.agrees.kin its.agrees.kin;
-        apart = All-append (λ k. k.0 ≢ v.number) v.met (kin_of w) it.agrees.apart (λ i d below. differ _ v.number (its.kin i d below) own);
+        apart = (
+          All-append (λ k. k.0 ≢ v.number) v.met (kin_of w) it.agrees.apart.0 (λ i d below. differ _ v.number (its.kin i d below) own),
+          apart-append v.met (kin_of w) it.agrees.apart.1 its.agrees.apart
+              (λ j e under i d below. differ _ _ (its.kin i d below) (All-tail (λ k. now.owner k.0 ≡ id) (v.number, v.mine) v.met it.kin j e under)),
+        );
         supply = λ n s. (
           (it.agrees.supply n s).0,
           All-append (λ k. k.0 ≢ n) (kin_of v) (kin_of w) (it.agrees.supply n s).1 (λ i d below. differ _ n (its.kin i d below) (it.supply n s)),
@@ -128,6 +132,7 @@ module _ {R E F C P : Type 0} (fixed : R → F) (list : R → List E) (answers :
       let parts = r.parts in record {
         now = with_met now other id;
         legal = r.legal;
+        gates = r.gates;
         words = r.words;
         order = r.order;
         parts = omega arith;

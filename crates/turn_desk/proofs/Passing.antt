@@ -44,7 +44,8 @@ module _ {R E F C P : Type 0} (fixed : R → F) (list : R → List E) (answers :
         record {
           now = later;
           legal = r.legal;
-          words = ap (λ (ws : List ℕ). slice_set ws 2 ((slice_index ws 2 + 1) % 2 ^ 64)) r.words ∙ ap (λ (n : ℕ). length now.log ∷ (now.drawn % 2 ^ 64) ∷ n ∷ []) (mod-add-mod now.served (2 ^ 64) 1);
+          gates = r.gates;
+          words = ap (λ (ws : List ℕ). slice_set ws 2 ((slice_index ws 2 + 1) % 2 ^ 64)) r.words ∙ ap (λ (n : ℕ). length now.log ∷ (now.drawn % 2 ^ 64) ∷ n ∷ r.gates) (mod-add-mod now.served (2 ^ 64) 1);
           order = omega arith;
           parts = omega arith;
           home = λ none_turning. (

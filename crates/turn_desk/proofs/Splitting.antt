@@ -73,7 +73,7 @@ module _ {E F : Type 0} where
       let next_free = (a.supply v.next (0, omega arith)).0 in
       let later : (n : ℕ) → Supplies (split_off v) n → v.next ≢ n = λ n s e. let is = s.1 in omega arith in record {
         kin = All-more (λ k. entries_by k.0 h ≡ k.1) (v.next, []) [] next_free (All-nil (λ k. entries_by k.0 h ≡ k.1));
-        apart = All-nil (λ k. k.0 ≢ v.next);
+        apart = (All-nil (λ k. k.0 ≢ v.next), tt);
         supply = λ n s. (
           (a.supply n (given_was_own v n (split_off_gives v n s))).0,
           All-more (λ k. k.0 ≢ n) (v.next, []) [] (later n s) (All-nil (λ k. k.0 ≢ n)),
@@ -157,6 +157,7 @@ module _ {R E F C P : Type 0} (fixed : R → F) (list : R → List E) (answers :
       let parts = r.parts in record {
         now = with_seat now v (length s.views);
         legal = r.legal;
+        gates = r.gates;
         words = r.words;
         order = r.order;
         parts = omega arith;

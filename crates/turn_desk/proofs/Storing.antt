@@ -52,7 +52,7 @@ module _ {R E F C P : Type 0} (fixed : R → F) (list : R → List E) (answers :
   own_agrees h e v a =
       let n = v.number in record {
         kin = All-more (λ k. entries_by k.0 (h ++ (n, e) ∷ []) ≡ k.1) (n, v.mine ++ e ∷ []) v.met (entries_by-own n e h ∙ ap (λ l. l ++ e ∷ []) (All-head (λ k. entries_by k.0 h ≡ k.1) (n, v.mine) v.met a.kin))
-            (entries_by-others n e h v.met a.apart (All-tail (λ k. entries_by k.0 h ≡ k.1) (n, v.mine) v.met a.kin));
+            (entries_by-others n e h v.met a.apart.0 (All-tail (λ k. entries_by k.0 h ≡ k.1) (n, v.mine) v.met a.kin));
         apart = a.apart;
         supply = λ k s.
             let free = a.supply k s in
@@ -85,7 +85,8 @@ module _ {R E F C P : Type 0} (fixed : R → F) (list : R → List E) (answers :
         record {
           now = record now { log = h };
           legal = legal;
-          words = ap (λ (ws : List ℕ). slice_set ws 0 n) r.words ∙ ap (λ (k : ℕ). k ∷ (now.drawn % 2 ^ 64) ∷ (now.served % 2 ^ 64) ∷ []) count;
+          gates = r.gates;
+          words = ap (λ (ws : List ℕ). slice_set ws 0 n) r.words ∙ ap (λ (k : ℕ). k ∷ (now.drawn % 2 ^ 64) ∷ (now.served % 2 ^ 64) ∷ r.gates) count;
           order = r.order;
           parts = omega arith;
           home = λ none_turning. absurd (none_turning id w (set_at s.views id me.0 w at) (subst HasTurn (sym stage) tt));

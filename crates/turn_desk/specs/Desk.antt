@@ -1,7 +1,7 @@
 -- The model of a desk and of its seats, and the relations that the calls of a desk ensure.
 use Rattle.std.specs.Prelude.{◌≡◌, ◌≢◌, ◌⊎◌, ℕ, List, [], ◌∷◌, ◌++◌, ◌+◌, ◌-◌, ◌/◌, ◌^◌, max, length, Option, Some, All}
 use Rattle.atomic_table.specs.Seated.{TableId}
-use Rattle.turn_desk.specs.History.{History, IsAmong, entries, entries_by, BeginsWith, IsLegal}
+use Rattle.turn_desk.specs.History.{History, AreApart, IsAmong, entries, entries_by, BeginsWith, IsLegal}
 use Rattle.atomic_table.specs.declared.shared.Seat.{Seat}
 use Rattle.turn_desk.specs.declared.view.View.{View}
 
@@ -14,7 +14,7 @@ pub record DeskId (F : Type 0) : Type 0 where
 -- `mine` has the entries of the seat's own calls. `met` has each seat met into it, with its number and the entries of
 -- its calls. `looks` has the lengths of the history that it loaded or stored, in order, and `tickets` the tickets that
 -- it drew, in order. `parts` is its share of the 2^64 - 1 parts of the desk. Each seat has at least one part, so there
--- are fewer than 2^64 seats at once. If a seat is split, the new seat gets a 64th of its parts, at least one part.
+-- are fewer than 2^64 seats at once. If a seat is split, the new seat gets a 4096th of its parts, at least one part.
 pub record Sitting (E F : Type 0) : Type 0 where
   pub table : TableId
   pub fixed : Option F
@@ -26,9 +26,9 @@ pub record Sitting (E F : Type 0) : Type 0 where
   pub tickets : List ℕ
   pub parts : ℕ
 
--- what a seat with this number of parts gives to a seat that is split off it: a 64th of them, at least one
+-- what a seat with this number of parts gives to a seat that is split off it: a 4096th of them, at least one
 abbrev pub share : ℕ → ℕ
-share parts = max 1 (parts / 64)
+share parts = max 1 (parts / 4096)
 
 module _ {E F : Type 0} where
   -- the model of a seat at a table
@@ -167,4 +167,6 @@ module _ {R F E C P : Type 0} (fixed : R → F) (list : R → List E) (answers :
     pub stands : list room ≡ entries h
     -- if the seat has all parts of its desk, all seats were met into it, and each entry is a call of its kin
     pub all : seat.parts ≡ 2 ^ 64 - 1 → (n : ℕ) → entries_by n h ≢ [] → IsAmong n (kin seat)
+    -- no number is that of two of its kin
+    pub apart : AreApart (kin seat)
     pub kin : HasKin h seat

@@ -1,5 +1,5 @@
 -- A history: a list of entries, each under the number of the seat that made it.
-use Rattle.std.specs.Prelude.{◌≡◌, ◌==◌, ◌⊎◌, ℕ, List, [], ◌∷◌, ◌++◌, map, if◌then◌else◌}
+use Rattle.std.specs.Prelude.{◌≡◌, ◌≢◌, ◌==◌, ◌⊎◌, ℕ, List, [], ◌∷◌, ◌++◌, map, if◌then◌else◌, All}
 
 abbrev pub History : Type 0 → Type 0
 History E = List (ℕ × E)
@@ -22,6 +22,11 @@ module _ {E : Type 0} where
   abbrev pub IsAmong : ℕ → List (ℕ × List E) → Type 0
   IsAmong n [] = ⊥
   IsAmong n (k ∷ ks) = (n ≡ k.0) ⊎ IsAmong n ks
+
+  -- no number is there twice
+  abbrev pub AreApart : List (ℕ × List E) → Type 0
+  AreApart [] = Unit {0}
+  AreApart (k ∷ ks) = All (λ (o : ℕ × List E). o.0 ≢ k.0) ks × AreApart ks
 
   -- the list is unchanged, or has gained one entry at its end
   abbrev pub GainsAtMostOne : List E → List E → Type 0

@@ -4,7 +4,7 @@ use Rattle.std.specs.Prelude.{◌≡◌, ◌≢◌, ◌⊎◌, ℕ, ◌+◌, ◌
 use mathlib.Core.Option.{some}
 use lib.ListN.{get_elem?}
 use Rattle.atomic_table.specs.Table.{State}
-use Rattle.turn_desk.specs.History.{History, IsAmong, entries, entries_by, BeginsWith, IsLegal}
+use Rattle.turn_desk.specs.History.{History, AreApart, IsAmong, entries, entries_by, BeginsWith, IsLegal}
 use Rattle.turn_desk.specs.declared.view.View.{View}
 use Rattle.turn_desk.specs.declared.view.Stage.{Stage}
 use Rattle.turn_desk.specs.declared.view.Stage.TheVariants.{Idle, Waiting, Turning}
@@ -33,7 +33,7 @@ module _ {E F : Type 0} where
   -- may give, it has no entry
   pub record Agrees (h : History E) (v : View E F) : Type 0 where
     pub kin : All (λ k. entries_by k.0 h ≡ k.1) (kin_of v)
-    pub apart : All (λ k. k.0 ≢ v.number) v.met
+    pub apart : AreApart (kin_of v)
     pub supply : (n : ℕ) → Supplies v n → (entries_by n h ≡ []) × All (λ k. k.0 ≢ n) (kin_of v)
     pub stride : 0 < v.stride
 
@@ -85,8 +85,10 @@ module _ {R E F C P : Type 0} (fixed : R → F) (list : R → List E) (answers :
     pub now : Moment E
     -- the history is legal
     pub legal : IsLegal answers f now.log
-    -- the words are the history's length, the number of tickets drawn and the number of tickets served
-    pub words : s.words ≡ length now.log ∷ (now.drawn % 2 ^ 64) ∷ (now.served % 2 ^ 64) ∷ []
+    -- the words are the history's length, the number of tickets drawn and the number of tickets served, and then the
+    -- gates, of which nothing is known
+    pub gates : List ℕ
+    pub words : s.words ≡ length now.log ∷ (now.drawn % 2 ^ 64) ∷ (now.served % 2 ^ 64) ∷ gates
     pub order : now.served ≤ now.drawn
     -- each ticket that is drawn and not yet served took a part from its seat, so there are fewer than 2^64 such tickets
     pub parts : total (λ v. v.parts) s.views + now.drawn ≡ now.served + (2 ^ 64 - 1)

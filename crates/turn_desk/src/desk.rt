@@ -1,11 +1,12 @@
 //! A desk, through which threads share one room.
 ghost use Rattle.std.specs.Prelude.{◌≡◌, ◌≤◌, [], IfOk};
-ghost use Rattle.turn_desk.specs.Desk.{IsAt, IsFirst, IsSameSeat, SplitsInto, MeetsAt, TurnsAt, LooksAt, HasKin, ClosesWith};
+ghost use Rattle.turn_desk.specs.History.{AreApart};
+ghost use Rattle.turn_desk.specs.Desk.{kin as kin_of, IsAt, IsFirst, IsSameSeat, SplitsInto, MeetsAt, TurnsAt, LooksAt, HasKin, ClosesWith};
 
 use crate::Memory;
 use crate::law::InTurns;
 use crate::seat::Seat;
-use crate::steps::{cut, look, take_in, take_last_turn, take_turn};
+use crate::steps::{WORDS, cut, look, take_in, take_last_turn, take_turn};
 use crate::turned::Turned;
 use crate::view::View;
 use atomic_table::Table;
@@ -52,7 +53,7 @@ impl<R: Turned, A: Allocator> Desk<R, A> {
         let about = Snapshot::of(&room);
         let mut slots = Vec::new(alloc.clone()?);
         slots.push(Some(room))?;
-        let Ok((table, place)) = Table::new(alloc, &[0, 0, 0], slots, &about) else {
+        let Ok((table, place)) = Table::new(alloc, &[0; WORDS], slots, &about) else {
             return Err(Memory);
         };
         Ok((Desk { table }, Seat { place }))
@@ -61,7 +62,7 @@ impl<R: Turned, A: Allocator> Desk<R, A> {
     /// Splits `seat` into two seats, which have both seen what `seat` had seen.
     ///
     /// The first seat is `seat` with fewer parts. The second seat has made no call, looked at no length and met no
-    /// seat. It has a number that no seat of the desk ever had, and a 64th of the parts, at least one part. So the
+    /// seat. It has a number that no seat of the desk ever had, and a 4096th of the parts, at least one part. So the
     /// first seat of a desk can be split more than two thousand times.
     ///
     /// When a seat is met into another seat, the numbers that it could give to new seats are lost. This costs nothing,
@@ -72,6 +73,7 @@ impl<R: Turned, A: Allocator> Desk<R, A> {
         ensures desk { IsAt self.now result.0 × IsAt self.now result.1 }
         ensures split { SplitsInto seat result.0 result.1 }
         ensures kin { HasKin result.0.seen result.0 × HasKin result.1.seen result.1 }
+        ensures apart { AreApart (kin_of result.0) × AreApart (kin_of result.1) }
     {
         let mut place = seat.place;
         let other = cut(&self.table.shared, &mut place);
@@ -88,6 +90,7 @@ impl<R: Turned, A: Allocator> Desk<R, A> {
         ensures desk { IsAt self.now seat.new }
         ensures meet { MeetsAt R.answers self.now.fixed seat.old other seat.new }
         ensures kin { HasKin seat.new.seen seat.new }
+        ensures apart { AreApart (kin_of seat.new) }
     {
         take_in(&self.table.shared, &mut seat.place, other.place);
     }
@@ -103,6 +106,7 @@ impl<R: Turned, A: Allocator> Desk<R, A> {
         ensures same { IsSameSeat seat.old seat.new }
         ensures turn { TurnsAt R.answers self.now.fixed seat.old call result seat.new }
         ensures kin { HasKin seat.new.seen seat.new }
+        ensures apart { AreApart (kin_of seat.new) }
     {
         take_turn(rt, &self.table.shared, &mut seat.place, call)
     }
@@ -119,6 +123,7 @@ impl<R: Turned, A: Allocator> Desk<R, A> {
         ensures same { IsSameSeat seat.old seat.new }
         ensures look { LooksAt R.answers self.now.fixed seat.old result seat.new }
         ensures kin { HasKin seat.new.seen seat.new }
+        ensures apart { AreApart (kin_of seat.new) }
     {
         look(&self.table.shared, &mut seat.place)
     }

@@ -52,6 +52,15 @@ impl<R: Turned> Play<Option<R>, View<R::Entry, R::Fixed>> for PassOn {
     ghost then = { λ _. PassesOn };
 }
 
+/// A step on a gate.
+pub(crate) struct Ring;
+
+impl<R: Turned> Play<Option<R>, View<R::Entry, R::Fixed>> for Ring {
+    ghost use Rattle.turn_desk.specs.Inner.Plays.{Rings};
+
+    ghost then = { λ _. Rings };
+}
+
 /// The step that looks at the length of the history.
 ///
 /// Only this step and [`Store`] say that the length is that of the whole history. The rule cannot say it: a fact about

@@ -1,15 +1,15 @@
 //! The steps of a turn, of a look, and of splitting and meeting seats, each in a function of its own.
 //!
 //! Word 0 is the length of the history. Word 1 is the number of tickets drawn, and word 2 the number of tickets served,
-//! both modulo 2^64. The one slot holds the room while no seat has the turn. The slot is a seat's from the load that
-//! gives it the turn until it passes the turn on.
+//! both modulo 2^64. The other words are gates, on which threads sleep until their turn. The one slot holds the room
+//! while no seat has the turn. The slot is a seat's from the load that gives it the turn until it passes the turn on.
 ghost use Rattle.std.specs.Prelude.{◌≡◌, ◌⊎◌, ℕ, ◌%◌, ◌^◌, ◌<◌, ◌≤◌, [], ◌∷◌, length, Some, None};
 ghost use Rattle.turn_desk.specs.Inner.Plays.{Draws, Asks, Stores, PassesOn, Looks, TakesTurn};
-ghost use Rattle.turn_desk.specs.Inner.Steps.{SitsAt, IsSamePlace, IsWaiting, IsTurning, IsAtRest, HoldsRoom, MayEnter, GetsTurn, MakesCall};
+ghost use Rattle.turn_desk.specs.Inner.Steps.{SitsAt, IsGate, IsSamePlace, IsWaiting, IsTurning, IsAtRest, HoldsRoom, MayEnter, GetsTurn, MakesCall};
 ghost use Rattle.turn_desk.specs.Desk.{sitting, IsSameSeat, TurnsAt, LooksAt, SplitsInto, MeetsAt, ClosesWith};
 ghost use Rattle.turn_desk.specs.declared.view.Stage.TheVariants.{Idle, Waiting};
 
-use crate::law::{Ask, Board, Cut, Draw, Look, Meeting, PassOn, Place, Store};
+use crate::law::{Ask, Board, Cut, Draw, Look, Meeting, PassOn, Place, Ring, Store};
 use crate::turned::Turned;
 use std::sync::Wait;
 use std::thread;
@@ -25,6 +25,46 @@ const SERVING: usize = 2;
 
 /// How often a waiting thread yields before it sleeps.
 const YIELDS: u32 = 64;
+
+/// A thread yields only if at most so many turns are before its own.
+const NEAR: u64 = 8;
+
+/// The first of the gates: words on which waiting threads sleep, each thread on that of its ticket.
+const GATES: usize = 3;
+
+/// The number of gates. Threads whose tickets differ by a multiple of it sleep on the same gate.
+const GATE_COUNT: u64 = 256;
+
+/// The number of words of a table.
+pub(crate) const WORDS: usize = 259;
+
+/// Returns the gate of a ticket.
+fn gate_of(ticket: u64) -> usize
+    ensures { IsGate result }
+{
+    GATES + (ticket % GATE_COUNT) as usize
+}
+
+/// Loads a gate, of which nothing is known.
+fn watch<R: Turned>(board: &Board<R>, place: &mut Place<R>, gate: usize) -> u64
+    requires seat { SitsAt board.now.table_id (R.fixed board.now.key.value) place.old }
+    requires gate { IsGate gate }
+    ensures place { IsSamePlace place.old place.new }
+    ensures same { place.new.me ≡ place.old.me }
+{
+    board.load::<Ring>(place, gate)
+}
+
+/// Changes the gate of a ticket, and wakes the threads that sleep on it.
+fn ring<R: Turned>(board: &Board<R>, place: &mut Place<R>, ticket: u64)
+    requires { SitsAt board.now.table_id (R.fixed board.now.key.value) place.old }
+    ensures place { IsSamePlace place.old place.new }
+    ensures same { place.new.me ≡ place.old.me }
+{
+    let gate = gate_of(ticket);
+    board.fetch_add::<Ring>(place, gate, 1);
+    board.wake_all(gate);
+}
 
 /// The part of a word that a sleeping thread watches.
 const LOW_BITS: u64 = 0xffff_ffff;
@@ -58,21 +98,24 @@ fn wait_for_turn<R: Turned, W: Wait>(rt: &W, board: &Board<R>, place: &mut Place
         TakesTurn R.fixed R.list R.answers (R.fixed board.now.key.value) t place.old.me place.new.me }
 {
     let mut yields = 0;
+    let gate = gate_of(ticket);
     'asking: for _ in rt.forever() {
+        let rung = watch(board, place, gate);
         let serving = ask(board, place);
         if serving == ticket {
             return;
         }
-        if yields < YIELDS {
+        if ticket.wrapping_sub(serving) <= NEAR && yields < YIELDS {
             yields += 1;
             thread::yield_now();
         } else {
-            // The system compares the low half of the word with the loaded one and puts the thread to sleep in one
-            // step. If they differ, the thread does not sleep. `pass_on` first changes the word and then wakes all
-            // threads that sleep on it. So a thread that loaded the word before the change does not go to sleep, or is
-            // woken. The low half is the same again only after 2^32 turns, all of which would have to be passed on
-            // between the load and the sleep.
-            board.park(rt, SERVING, (serving & LOW_BITS) as u32);
+            // The system compares the low half of the gate with the loaded one and puts the thread to sleep in one
+            // step. If they differ, the thread does not sleep. `pass_on` first passes the turn on, then changes the
+            // gate of the next ticket, and then wakes all threads that sleep on it. A thread that loaded its gate
+            // before this change does not go to sleep, or is woken. A thread that loaded it after the change then finds
+            // that it has the turn. The low half is the same again only after 2^32 changes, all of which would have to
+            // be made between the load and the sleep.
+            board.park(rt, gate, (rung & LOW_BITS) as u32);
         }
     }
     unreachable!()
@@ -122,10 +165,12 @@ fn pass_on<R: Turned>(board: &Board<R>, place: &mut Place<R>)
     ensures place { IsSamePlace place.old place.new }
     ensures idle { PassesOn place.old.me 0 place.new.me }
 {
-    // The word is changed before the wake, so that no thread that saw the old word sleeps on. All threads are woken,
-    // because a single thread might be one whose turn it is not.
-    board.fetch_add::<PassOn>(place, SERVING, 1);
-    board.wake_all(SERVING);
+    // Only the threads at the gates of the next two tickets are woken: if a turn woke all that wait, most would only go
+    // to sleep again.
+    let served = board.fetch_add::<PassOn>(place, SERVING, 1);
+    // The next thread gets its turn, and the one after it may begin to yield.
+    ring(board, place, served.wrapping_add(1));
+    ring(board, place, served.wrapping_add(2));
 }
 
 /// Draws a ticket and waits until the seat has the turn.

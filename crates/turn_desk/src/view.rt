@@ -28,7 +28,7 @@ pub(crate) struct View<E, F> {
     /// The tickets that the seat drew.
     pub tickets: LinkedList<u64>,
     /// The seat's parts of the right to sit at the desk. A ticket takes one part until it is served. A seat that is
-    /// split off this one gets a 64th of the parts, at least one.
+    /// split off this one gets a 4096th of the parts, at least one.
     pub parts: u64,
     /// The numbers `next`, `next + stride`, `next + 2 * stride` and so on are for seats that are split off this one.
     pub next: u64,

@@ -33,6 +33,10 @@ module _ {R E F : Type 0} where
   abbrev pub Draws : Me (Option R) (View E F) → ℕ → Me (Option R) (View E F) → Type 0
   Draws m found m' = (t : ℕ) × (found ≡ t % 2 ^ 64) × (0 < m.0.parts) × (m' ≡ (waiting t m.0, m.1))
 
+  -- a step on a gate: the seat knows what it knew
+  abbrev pub Rings : Me (Option R) (View E F) → ℕ → Me (Option R) (View E F) → Type 0
+  Rings m found m' = m' ≡ m
+
   -- fetch_add on `serving`: the seat gave the slot back and is idle
   abbrev pub PassesOn : Me (Option R) (View E F) → ℕ → Me (Option R) (View E F) → Type 0
   PassesOn m found m' = m' ≡ (resting m.0, [])

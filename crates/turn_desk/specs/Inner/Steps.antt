@@ -1,5 +1,5 @@
 -- What the functions of the steps require and ensure.
-use Rattle.std.specs.Prelude.{◌≡◌, ◌≢◌, ◌⊎◌, ℕ, ◌-◌, ◌%◌, ◌^◌, ◌<◌, List, [], ◌∷◌, ◌++◌, length, Option, Some}
+use Rattle.std.specs.Prelude.{◌≡◌, ◌≢◌, ◌⊎◌, ℕ, ◌+◌, ◌-◌, ◌%◌, ◌^◌, ◌<◌, List, [], ◌∷◌, ◌++◌, length, Option, Some}
 use Rattle.atomic_table.specs.Table.{Me}
 use Rattle.atomic_table.specs.Seated.{TableId}
 use Rattle.atomic_table.specs.declared.shared.Seat.{Seat}
@@ -9,9 +9,13 @@ use Rattle.turn_desk.specs.Inner.Plays.{waiting, turning, looking, Grows}
 use Rattle.turn_desk.specs.declared.view.View.{View}
 use Rattle.turn_desk.specs.declared.view.Stage.TheVariants.{Idle, Waiting, Turning}
 
--- the table has three words and one slot
+-- the table has three words, 256 gates and one slot
 abbrev pub IsSized : TableId → Type 0
-IsSized z = (z.words ≡ 3) × (z.slots ≡ 1)
+IsSized z = (z.words ≡ 259) × (z.slots ≡ 1)
+
+-- the word is a gate
+abbrev pub IsGate : ℕ → Type 0
+IsGate word = (g : ℕ) × (word ≡ 3 + g) × (g < 256)
 
 module _ {S V : Type 0} where
   -- it is the same seat at the same table, whatever the seat knows
