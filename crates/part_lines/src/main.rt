@@ -19,7 +19,6 @@ mod serving;
 mod sessions;
 
 use crate::serving::Serving;
-use room_server::Load;
 use std::alloc::Global;
 use std::rt::{Clock, Env};
 use std::sync::Wait;
@@ -64,15 +63,15 @@ fn what_is_asked<R: Env + AllocGlobal>(rt: &R) -> Option<Asked> {
     let part = words.nth(1)?;
     if part.as_str() == "serve" {
         let addr = words.next()?;
-        let load = Load {
-            workers: words.next()?.parse().ok()?,
-            sessions: words.next()?.parse().ok()?,
-            turns: words.next()?.parse().ok()?,
-        };
+        let workers = words.next()?.parse().ok()?;
+        let sessions = words.next()?.parse().ok()?;
+        let turns = words.next()?.parse().ok()?;
         let is_held = words.next().is_some();
         return Some(Asked::Serve(Serving {
             addr,
-            load,
+            workers,
+            sessions,
+            turns,
             is_held,
         }));
     }

@@ -8,7 +8,7 @@ mod held;
 use crate::serving::held::Held;
 use log::Log;
 use room_server::{Load, RoomTable, close_all, serve_rooms};
-use room_socket::{Gate, OpenGate};
+use room_socket::{Admission, Gate, OpenGate};
 use std::alloc::Global;
 use std::io;
 use std::net::{Net, TcpListener, TcpStream};
@@ -27,8 +27,12 @@ const MOST_WORKERS: u32 = 64;
 pub struct Serving {
     /// The address at which it listens.
     pub addr: String,
-    /// The limits of its pool.
-    pub load: Load,
+    /// The number of its workers.
+    pub workers: u32,
+    /// The number of connections that it accepts.
+    pub sessions: u32,
+    /// The most messages that a session reads.
+    pub turns: u64,
     /// Whether the third message of the first session is delayed until the second message of the second session was
     /// answered.
     pub is_held: bool,
@@ -63,15 +67,21 @@ where
         + Sync,
 {
     let load = Load {
-        workers: asked.load.workers.min(MOST_WORKERS),
-        ..asked.load
+        workers: asked.workers.min(MOST_WORKERS),
+        sessions: Some(asked.sessions),
+        turns: asked.turns,
+    };
+    let admission = Admission {
+        name_header: None,
+        watchers: false,
+        origins: Vec::new(alloc),
     };
     let Ok((table, seats)) = RoomTable::open(alloc, &["paris"], LIMIT) else {
         return Err(io::ErrorKind::OutOfMemory.into());
     };
     let listener = TcpListener::bind(rt, asked.addr.as_str())?;
     println!(rt; "listening")?;
-    let Ok(seats) = serve_rooms(rt, alloc, gate, &listener, &table, seats, load) else {
+    let Ok(seats) = serve_rooms(rt, alloc, gate, &listener, &table, seats, &admission, load) else {
         return Err(io::ErrorKind::OutOfMemory.into());
     };
     for front in close_all(rt, alloc, table, seats)? {

@@ -18,6 +18,7 @@ mod line;
 
 use crate::sessions::client::hear_line;
 use room_server::{RoomTable, Seated};
+use room_session::caller::Caller;
 use room_session::session::Session;
 use std::alloc::Global;
 use std::io::{self, Lines, StdinLock};
@@ -34,8 +35,8 @@ pub fn run<R: Print + Wait>(
         return Err(io::ErrorKind::OutOfMemory.into());
     };
     let mut rooms = Seated::new(&table, seats);
-    let mut anna = Session::new(alloc);
-    let mut bob = Session::new(alloc);
+    let mut anna = Session::new(alloc, Caller::Anyone);
+    let mut bob = Session::new(alloc, Caller::Anyone);
     hear_lines(rt, alloc, &mut anna, &mut bob, &mut rooms, lines)
 }
 

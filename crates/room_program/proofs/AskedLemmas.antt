@@ -14,8 +14,8 @@ use Rattle.clap.specs.declared.error.kind.ErrorKind.{ErrorKind}
 use Rattle.clap.specs.declared.error.kind.ErrorKind.TheVariants.{MissingSubcommand}
 use Rattle.clap.proofs.CallerReads.{signed_reads}
 use Rattle.clap.proofs.ValueTestLemmas.{accepts-Accepts, Accepts-accepts}
-use Rattle.room_program.specs.Prelude.{option_map_or, IsNumeral, ParsesUnsigned, without_leading_plus, HasNumber, faults, limit_option, number_in, number_of, number_option, program_app, replay_app, rows_asked, subcommand_asked}
-use Rattle.room_program.proofs.OptionLemmas.{EachKeeps, IsRead, Keeps, KeepsByDefault, default_read, first_passes, level_good, needed_read, no_default, only_own, own_default, set_good}
+use Rattle.room_program.specs.Prelude.{option_map_or, IsNumeral, ParsesUnsigned, without_leading_plus, HasNumber, faults, given_number, limit_option, number_in, number_of, number_option, program_app, replay_app, rows_asked, subcommand_asked}
+use Rattle.room_program.proofs.OptionLemmas.{EachKeeps, IsRead, Keeps, KeepsByDefault, default_read, first_passes, level_good, needed_read, no_default, only_own, own_default, read_if_any, set_good}
 use Rattle.room_program.proofs.WordWalks.{NoHelpMet, below_none, check_none, level_stops, no_second}
 
 -- the subcommands of the built program
@@ -93,6 +93,11 @@ pub record IsNumberIn (least most : ℕ) (id : Text) (rows : List Row) : Type 0 
   pub least_is : least ≤ number_in id rows
   pub most_is : number_in id rows ≤ most
 
+-- the value of an option is such a text, if the option is given
+pub record IsNumberIfAny (least most : ℕ) (id : Text) (rows : List Row) : Type 0 where
+  pub has : HasNumber id rows
+  pub range : IfSome (given_number id rows) (λ n. (least ≤ n) × (n ≤ most))
+
 module _ (least most : ℕ) (fits : most < 2 ^ 32) where
   -- a value in the range is such a text, as it is read
   value_number : (v : Text) → accepts false (Signed (pos least) (pos most)) v ≡ true → IsNumber least most (without_minus v)
@@ -124,6 +129,16 @@ module _ (least most : ℕ) (fits : most < 2 ^ 32) where
           let number = subst (IsNumber least most) (sym is.1) (value_number is.0 is.2) in
           (refl, (number.0, omega (arith, number.2, fits)), number.1, number.2)
 
+  number_if_any : (id : Text) (rows : List Row) → (one_of id rows ≡ None) ⊎ IsRead id (Signed (pos least) (pos most)) (one_of id rows) → IsNumberIfAny least most id rows
+  number_if_any id rows (inl none) = record { has = rw none tt; range = rw none tt }
+  number_if_any id rows (inr read) =
+      let it = read_number id rows read in
+      record { has = it.has; range = go (one_of id rows) it.least_is it.most_is }
+    where
+      go : (o : Option Text) → least ≤ option_map_or number_of o 0 → option_map_or number_of o 0 ≤ most → IfSome (option_map number_of o) (λ n. (least ≤ n) × (n ≤ most))
+      go None below above = tt
+      go (Some t) below above = (below, above)
+
 -- ---- the rules of the subcommands
 
 -- the rule of an option with a number, after building
@@ -153,17 +168,17 @@ limit_of_serve =
     let own = number_rule (codes "limit") 0 1000000 (codes "1000000" ∷ []) false in
     only_own (codes "limit") limit_range (take 3 serve_shape.rules) (drop 4 serve_shape.rules) own refl refl (number_keeps (codes "limit") 0 1000000 (codes "1000000" ∷ []) false) limit_default
 
-workers_of_serve : EachKeeps (codes "workers") (Signed (pos 1) (pos 64)) serve_shape.rules
+workers_of_serve : EachKeeps (codes "workers") (Signed (pos 1) (pos 1024)) serve_shape.rules
 workers_of_serve =
-    let own = number_rule (codes "workers") 1 64 [] true in
-    only_own (codes "workers") (Signed (pos 1) (pos 64)) (take 1 serve_shape.rules) (drop 2 serve_shape.rules) own refl refl
-    (number_keeps (codes "workers") 1 64 [] true) (no_default (codes "workers") (Signed (pos 1) (pos 64)))
+    let own = number_rule (codes "workers") 1 1024 [] true in
+    only_own (codes "workers") (Signed (pos 1) (pos 1024)) (take 1 serve_shape.rules) (drop 2 serve_shape.rules) own refl refl
+    (number_keeps (codes "workers") 1 1024 [] true) (no_default (codes "workers") (Signed (pos 1) (pos 1024)))
 
 sessions_of_serve : EachKeeps (codes "sessions") (Signed (pos 1) (pos 1000000)) serve_shape.rules
 sessions_of_serve =
-    let own = number_rule (codes "sessions") 1 1000000 [] true in
+    let own = number_rule (codes "sessions") 1 1000000 [] false in
     only_own (codes "sessions") (Signed (pos 1) (pos 1000000)) (take 2 serve_shape.rules) (drop 3 serve_shape.rules) own refl refl
-    (number_keeps (codes "sessions") 1 1000000 [] true) (no_default (codes "sessions") (Signed (pos 1) (pos 1000000)))
+    (number_keeps (codes "sessions") 1 1000000 [] false) (no_default (codes "sessions") (Signed (pos 1) (pos 1000000)))
 
 -- ---- what is asked
 
@@ -196,19 +211,19 @@ serve_met words e named = elim (asked_enters words e) [
 ]
 
 -- the workers and the sessions
-pub workers_number : (words : List Text) → faults words ≡ [] → subcommand_asked words ≡ Some (codes "serve") → IsNumberIn 1 64 (codes "workers") (rows_asked words)
+pub workers_number : (words : List Text) → faults words ≡ [] → subcommand_asked words ≡ Some (codes "serve") → IsNumberIn 1 1024 (codes "workers") (rows_asked words)
 workers_number words e named =
     let to = serve_met words e named in
-    let good = level_good (codes "workers") (Signed (pos 1) (pos 64)) serve_shape to.0 workers_of_serve to.1 in
-    let read = needed_read (codes "workers") (Signed (pos 1) (pos 64)) serve_shape to.0 1 (rule_at serve_shape 1) refl refl refl to.1 good in
-    subst (λ (x : List Row). IsNumberIn 1 64 (codes "workers") x) (sym (rows_met words serve_shape to.0 to.2)) (read_number 1 64 (omega arith) (codes "workers") (rows_at serve_shape to.0).1 read)
+    let good = level_good (codes "workers") (Signed (pos 1) (pos 1024)) serve_shape to.0 workers_of_serve to.1 in
+    let read = needed_read (codes "workers") (Signed (pos 1) (pos 1024)) serve_shape to.0 1 (rule_at serve_shape 1) refl refl refl to.1 good in
+    subst (λ (x : List Row). IsNumberIn 1 1024 (codes "workers") x) (sym (rows_met words serve_shape to.0 to.2)) (read_number 1 1024 (omega arith) (codes "workers") (rows_at serve_shape to.0).1 read)
 
-pub sessions_number : (words : List Text) → faults words ≡ [] → subcommand_asked words ≡ Some (codes "serve") → IsNumberIn 1 1000000 (codes "sessions") (rows_asked words)
+pub sessions_number : (words : List Text) → faults words ≡ [] → subcommand_asked words ≡ Some (codes "serve") → IsNumberIfAny 1 1000000 (codes "sessions") (rows_asked words)
 sessions_number words e named =
     let to = serve_met words e named in
     let good = level_good (codes "sessions") (Signed (pos 1) (pos 1000000)) serve_shape to.0 sessions_of_serve to.1 in
-    let read = needed_read (codes "sessions") (Signed (pos 1) (pos 1000000)) serve_shape to.0 2 (rule_at serve_shape 2) refl refl refl to.1 good in
-    subst (λ (x : List Row). IsNumberIn 1 1000000 (codes "sessions") x) (sym (rows_met words serve_shape to.0 to.2)) (read_number 1 1000000 (omega arith) (codes "sessions") (rows_at serve_shape to.0).1 read)
+    let read = read_if_any (codes "sessions") (Signed (pos 1) (pos 1000000)) (rows_at serve_shape to.0).1 good in
+    subst (λ (x : List Row). IsNumberIfAny 1 1000000 (codes "sessions") x) (sym (rows_met words serve_shape to.0 to.2)) (number_if_any 1 1000000 (omega arith) (codes "sessions") (rows_at serve_shape to.0).1 read)
 
 -- arguments that are taken ask for one of the two subcommands
 pub asked_one : (words : List Text) → faults words ≡ [] → (subcommand_asked words ≡ Some (codes "replay")) ⊎ (subcommand_asked words ≡ Some (codes "serve"))

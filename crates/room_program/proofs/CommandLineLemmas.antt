@@ -1,5 +1,5 @@
 -- The values of the program's arguments, and the kinds of error in a list.
-use Rattle.std.proofs.Common.{◌≡◌, ◌||◌, refl, Bool, true, false, List, [], ◌∷◌, Option, Some, None, Box, unwrap_or, option_map, ◌∙◌, sym, ap, true≢false, inl, inr, box_value}
+use Rattle.std.proofs.Common.{◌≡◌, ◌||◌, refl, Bool, true, false, List, [], ◌∷◌, Option, Some, None, Result, Ok, Err, Box, IsErrAnd, MatchResult, unwrap_or, option_map, ◌∙◌, sym, ap, subst, true≢false, inl, inr, box_value}
 use Rattle.clap.specs.Matches.{subcommand_name_of}
 use Rattle.clap.specs.Faults.{fault_of, is_simple_and_free}
 use Rattle.clap.specs.Simple.{App, HasMatchesOf, is_simple, subcommand_of, subcommand_rows, subcommand_rows_of}
@@ -12,7 +12,7 @@ use Rattle.clap.specs.declared.error.kind.ErrorKind.TheVariants.{OutOfMemory}
 use Rattle.clap.specs.declared.parser.matches.ArgMatches.{ArgMatches}
 use Rattle.clap.specs.declared.parser.matches.ArgMatches.TheViews.{out-ArgMatches, out-SubCommand}
 use Rattle.clap.specs.declared.parser.matches.SubCommand.{SubCommand}
-use Rattle.room_program.specs.Prelude.{list_any, IsTaken, program_app, rows_asked, subcommand_asked}
+use Rattle.room_program.specs.Prelude.{list_any, IsTaken, faults, program_app, rows_asked, subcommand_asked}
 
 any_among : (p : ErrorKind → Bool) (k : ErrorKind) (kinds : Kinds) → p k ≡ true → IsAmong k kinds → list_any p kinds ≡ true
 any_among p k [] passes among = absurd among
@@ -41,6 +41,18 @@ pub record Found (words : List Text) (name : Text) (rows : List Row) : Type 0 wh
   pub taken : IsTaken words
   pub named : subcommand_asked words ≡ Some name
   pub rows_are : rows_asked words ≡ rows
+
+-- clap's error, for the program's command line, has one of the kinds that the arguments can lead to
+pub words_refused : (line : App) (words : List Text) (e : Error) → line ≡ program_app
+    → (is_simple_and_free line ≡ true → HasKind (fault_of line words) e) → HasKind (faults words) e
+words_refused line words e line_is kinds =
+    subst (λ a. HasKind (fault_of a words) e) line_is (kinds (ap is_simple_and_free line_is))
+
+-- an error that was passed on
+pub error_passed : {T : Type 0} (P : T → Type 0) (kinds : Kinds) (r : Result T Error) (e : Error) → IsErrAnd r (λ y. y ≡ e)
+    → HasKind kinds e → MatchResult r P (HasKind kinds)
+error_passed P kinds (Ok x) e is kind = absurd is
+error_passed P kinds (Err y) e is kind = subst (HasKind kinds) (sym is) kind
 
 -- clap's contract on the matches, for the program's command line
 module _ (line : App) (words : List Text) (m : ArgMatches) (line_is : line ≡ program_app) where

@@ -1,5 +1,5 @@
 -- Arguments without a fault give an option values, the first of which its parser accepts.
-use Rattle.std.proofs.Common.{◌≡◌, ◌||◌, ◌&&◌, ◌++◌, ◌+◌, refl, cond, ℕ, zero, suc, Bool, true, false, List, [], ◌∷◌, Option, Some, None, min, not, slice_get, unwrap_or, find, fold, ◌∙◌, sym, ap, subst, true≢false, bytes_eq}
+use Rattle.std.proofs.Common.{◌≡◌, ◌⊎◌, ◌||◌, ◌&&◌, ◌++◌, ◌+◌, inl, inr, refl, cond, ℕ, zero, suc, Bool, true, false, List, [], ◌∷◌, Option, Some, None, min, not, slice_get, unwrap_or, find, fold, ◌∙◌, sym, ap, subst, true≢false, bytes_eq}
 use Rattle.std.specs.Prelude.{⊤}
 use Rattle.std.proofs.lemmas.Slice.Eq.{bytes_eq-Decides}
 use Rattle.clap.specs.Facts.{explicit_source}
@@ -298,6 +298,18 @@ module _ (id : Text) (parser : ValueParser) where
           let good = g.0 e in
           rw (e, good.1, good.2) (good.0, refl, good.3)
       go false e has rest = rw e (rest has)
+
+  -- so an option that is not required has such a value, or none
+  pub read_if_any : (rows : List Row) → AllGood rows → (one_of id rows ≡ None) ⊎ IsRead (one_of id rows)
+  read_if_any rows g = go (has_row id rows) refl
+    where
+      none_of : (rows : List Row) → has_row id rows ≡ false → one_of id rows ≡ None
+      none_of [] has = refl
+      none_of (r ∷ rs) has = let parts = neither (bytes_eq r.id id) (has_row id rs) has in rw parts.0 (none_of rs parts.1)
+
+      go : (b : Bool) → has_row id rows ≡ b → (one_of id rows ≡ None) ⊎ IsRead (one_of id rows)
+      go true has = inr (read_good rows g has)
+      go false has = inl (none_of rows has)
 
   -- so an option with a default is read
   pub default_read : (s : Shape) (words : List Text) (k : ℕ) (a : Rule) (v : Text) (vs : List Text) → slice_get s.rules k ≡ Some a → a.id ≡ id → a.defaults ≡ v ∷ vs

@@ -6,6 +6,7 @@ use Rattle.clap.specs.declared.builder.action.ArgAction.TheVariants.{Append, Set
 use Rattle.clap.specs.declared.builder.value_parser.ValueParser.TheVariants.{Signed}
 use Rattle.clap.specs.declared.error.kind.ErrorKind.{ErrorKind}
 use Rattle.clap.specs.declared.error.kind.ErrorKind.TheVariants.{DisplayHelp, DisplayVersion, OutOfMemory}
+use Rattle.room_socket.specs.Admitting.{Rule as Admitted}
 use Rattle.room_server.specs.Prelude.{list_any, option_map_or, IsNumeral, digits_value, without_leading_plus}
 
 -- an option `--NAME` with one value
@@ -28,15 +29,25 @@ limit_option = record (number_option (codes "limit") 0 1000000) { defaults = cod
 abbrev pub base_option : Rule
 base_option = record (new_rule (codes "base")) { long = Some (codes "base"); action = Some SetTrue }
 
--- `--addr`, any text; `--workers`, a number from 1 to 64; `--sessions`, a number from 1 to 1000000
+-- `--addr`, any text; `--workers`, a number from 1 to 1024; `--sessions`, a number from 1 to 1000000, or none
 abbrev pub addr_option : Rule
 addr_option = needed (value_option (codes "addr"))
 
 abbrev pub workers_option : Rule
-workers_option = needed (number_option (codes "workers") 1 64)
+workers_option = needed (number_option (codes "workers") 1 1024)
 
 abbrev pub sessions_option : Rule
-sessions_option = needed (number_option (codes "sessions") 1 1000000)
+sessions_option = number_option (codes "sessions") 1 1000000
+
+-- `--name-header`, any text; `--watchers`, without a value; `--origin`, any text, as often as it is given
+abbrev pub name_header_option : Rule
+name_header_option = value_option (codes "name-header")
+
+abbrev pub watchers_option : Rule
+watchers_option = record (new_rule (codes "watchers")) { long = Some (codes "watchers"); action = Some SetTrue }
+
+abbrev pub origin_option : Rule
+origin_option = record (value_option (codes "origin")) { action = Some Append }
 
 -- the arguments that are not options: the names of rooms, at least one
 abbrev pub room_words : Rule
@@ -53,8 +64,9 @@ replay_app = with_rule (with_rule (new_app (codes "replay")) limit_option) base_
 
 -- the subcommand `serve`, with its options and the rooms
 abbrev pub serve_app : App
-serve_app = with_rule (with_rule (with_rule (with_rule (with_rule (with_rule (new_app (codes "serve"))
-    addr_option) workers_option) sessions_option) limit_option) base_option) room_words
+serve_app = with_rule (with_rule (with_rule (with_rule (with_rule (with_rule (with_rule (with_rule (with_rule
+    (new_app (codes "serve")) addr_option) workers_option) sessions_option) limit_option) base_option)
+    name_header_option) watchers_option) origin_option) room_words
 
 -- the program, which requires a subcommand and has a version
 abbrev pub program_app : App
@@ -108,13 +120,32 @@ abbrev pub HasNumber : Text → List Row → Type 0
 HasNumber option rows =
     IfSome (one_of option rows) (λ text. IsNumeral 10 (without_leading_plus text) × (number_of text < 2 ^ 32))
 
+-- the number of an option, if it is given
+abbrev pub given_number : Text → List Row → Option ℕ
+given_number option rows = option_map number_of (one_of option rows)
+
+-- an option without a value is given
+abbrev pub flag_in : Text → List Row → Bool
+flag_in option rows = bytes_eq (unwrap_or (first_of option rows) []) (codes "true")
+
 -- the address, as it is written, or the empty text if there is none
 abbrev pub addr_in : List Row → Text
 addr_in rows = unwrap_or (first_of (codes "addr") rows) []
 
 -- a base is asked for
 abbrev pub base_in : List Row → Bool
-base_in rows = bytes_eq (unwrap_or (first_of (codes "base") rows) []) (codes "true")
+base_in rows = flag_in (codes "base") rows
+
+-- the header that names authors, if one is asked for, and whether others may watch
+abbrev pub name_header_in : List Row → Option Text
+name_header_in rows = first_of (codes "name-header") rows
+
+abbrev pub watchers_in : List Row → Bool
+watchers_in rows = flag_in (codes "watchers") rows
+
+-- the origins that are let in, in order
+abbrev pub origins_in : List Row → List Text
+origins_in rows = unwrap_or (all_of (codes "origin") rows) []
 
 -- the rooms, as they are written and in order
 abbrev pub rooms_in : List Row → List Text
@@ -135,11 +166,19 @@ base_asked words = base_in (rows_asked words)
 abbrev pub workers_asked : List Text → ℕ
 workers_asked words = number_in (codes "workers") (rows_asked words)
 
-abbrev pub sessions_asked : List Text → ℕ
-sessions_asked words = number_in (codes "sessions") (rows_asked words)
+abbrev pub sessions_asked : List Text → Option ℕ
+sessions_asked words = given_number (codes "sessions") (rows_asked words)
 
 abbrev pub addr_asked : List Text → Text
 addr_asked words = addr_in (rows_asked words)
 
 abbrev pub rooms_asked : List Text → List Text
 rooms_asked words = rooms_in (rows_asked words)
+
+-- whom the server lets in
+abbrev pub rule_asked : List Text → Admitted
+rule_asked words = record {
+  name_header = name_header_in (rows_asked words);
+  watchers = watchers_in (rows_asked words);
+  origins = origins_in (rows_asked words);
+}

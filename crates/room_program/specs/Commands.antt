@@ -10,8 +10,9 @@ use Rattle.room_program.specs.Bases.{IsNoBase, IsTold, behind}
 use Rattle.room_program.specs.Faults.{Takes, fault_line}
 use Rattle.room_program.specs.LineAnswers.{script}
 use Rattle.room_program.specs.Replays.{EndsBy}
+use Rattle.room_program.specs.Servings.{rule_of_asked}
 use Rattle.room_program.specs.Streams.{GetsAtMost, WritesAll, WritesFront}
-use Rattle.room_program.specs.CommandLine.{IsTaken, addr_asked, base_asked, limit_asked, rooms_asked, sessions_asked, subcommand_asked, workers_asked}
+use Rattle.room_program.specs.CommandLine.{IsTaken, addr_asked, base_asked, limit_asked, rooms_asked, rule_asked, sessions_asked, subcommand_asked, workers_asked}
 use Rattle.room_program.specs.declared.asked.Asked.TheVariants as asked
 use Rattle.room_program.specs.declared.sink.Sink as sinks
 use Rattle.room_program.specs.declared.source.Source as sources
@@ -32,6 +33,7 @@ pub record AsksForServe (words : List Text) (serve : ServeOptions) : Type 0 wher
   pub sessions_are : serve.sessions ≡ sessions_asked words
   pub limit_is : serve.limit ≡ limit_asked words
   pub base_is : serve.base ≡ base_asked words
+  pub rule_is : rule_of_asked serve ≡ rule_asked words
   pub rooms_are : map (λ room. room.now) serve.rooms.items ≡ rooms_asked words
 
 -- the arguments are taken, and ask for this

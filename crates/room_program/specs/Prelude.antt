@@ -13,7 +13,7 @@ pub use Rattle.room_interface.specs.declared.call.Call.{Call}
 pub use Rattle.room_interface.specs.declared.refusal.Refusal.{Refusal}
 pub use Rattle.room_program.specs.Bases.{BeginsOn, IsFirstLineOf, IsNoBase, IsTold, IsUnread, Tells, behind, behind_line, first_line, spelled_base}
 pub use Rattle.room_program.specs.Calls.{IsAnswered, noted, one_more}
-pub use Rattle.room_program.specs.CommandLine.{HasNumber, IsTaken, faults, limit_option, number_in, number_of, number_option, program_app, replay_app, rows_asked, subcommand_asked}
+pub use Rattle.room_program.specs.CommandLine.{HasNumber, IsTaken, faults, given_number, limit_option, number_in, number_of, number_option, program_app, replay_app, rows_asked, subcommand_asked}
 pub use Rattle.room_program.specs.Commands.{Ran, RanBy, Replays}
 pub use Rattle.room_program.specs.Faults.{Takes, base_fault, fault_line, opening_fault, pool_fault, stream_fault, table_fault}
 pub use Rattle.room_program.specs.Fronts.{front_lines}

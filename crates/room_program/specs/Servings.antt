@@ -1,8 +1,10 @@
 -- The outcome of serving rooms.
-use Rattle.std.specs.Prelude.{◌≡◌, ◌≤◌, ◌<◌, ◌⊎◌, ◌^◌, ℕ, Bool, true, false, List, All, length, ◌++◌, codes}
+use Rattle.std.specs.Prelude.{◌≡◌, ◌≤◌, ◌<◌, ◌⊎◌, ◌^◌, ℕ, Bool, true, false, List, All, length, map, option_map, ◌++◌, codes}
 use Rattle.clap.specs.Words.{Text}
-use Rattle.room_server.specs.Prelude.{Global, is_sound, Rows, IsJournal, AreFronts, AreFine, IsNameFault, Opens, Pools, SeatView, TableView}
+use Rattle.room_socket.specs.Admitting.{Rule as Admitted}
+use Rattle.room_server.specs.Prelude.{Global, is_sound, Rows, IsJournal, AreAt, AreFronts, AreFine, HaveMet, IsNameFault, Opens, Pools, SeatView, TableView}
 use Rattle.room_history.specs.declared.entry.Entry.{Entry}
+use Rattle.room_program.specs.declared.asked.ServeOptions.{ServeOptions}
 use Rattle.room_program.specs.declared.fault.ProgramFault.{ProgramFault}
 use Rattle.room_program.specs.declared.fault.ProgramFault.TheVariants.{Replay, Memory, Listen, Worker, TooManyRooms, BadName, Twice}
 use Rattle.room_program.specs.Bases.{BeginsOn, IsNoBase}
@@ -20,6 +22,14 @@ CanBeServed rooms = (length rooms ≤ 64) × AreFine rooms (length rooms)
 -- the number is the length of a journal with this limit, to which calls lead from this map
 abbrev pub IsFrontOf : Rows Global → ℕ → ℕ → Type 0
 IsFrontOf base limit front = (journal : List (Entry Global)) × IsJournal base limit journal × (front ≡ length journal)
+
+-- whom the server lets in, as it was asked for
+abbrev pub rule_of_asked : ServeOptions → Admitted
+rule_of_asked asked = record {
+  name_header = option_map (λ name. name.now) asked.name_header;
+  watchers = asked.watchers;
+  origins = map (λ origin. origin.now) asked.origins.items;
+}
 
 -- the line that is written once clients can connect
 abbrev pub listening : Text
@@ -43,7 +53,8 @@ module _ {S : Type 0} (source : sources.Ghosts S) (on_base : Bool) where
 module _ {W : Type 0} (sink : sinks.Ghosts W) where
   -- The rooms were served to the end, each from this map on. The output took the line `listening`, and then for each
   -- room a line with the entry count of its journal, which has the entries of the workers' sessions and no others.
-  pub record ServesAll (rooms : List Text) (base : Rows Global) (limit workers : ℕ) (output output' : W) : Type 0 where
+  pub record ServesAll (rooms : List Text) (base : Rows Global) (limit workers : ℕ) (rule : Admitted) (output output' : W)
+      : Type 0 where
     pub can : CanBeServed rooms
     pub sound : is_sound base ≡ true
     -- the rooms' desks with their first seats
@@ -52,7 +63,9 @@ module _ {W : Type 0} (sink : sinks.Ghosts W) where
     pub opens : Opens rooms base limit table first
     -- these seats at the end, after the seats through which the workers served sessions were met into them
     pub seats : List SeatView
-    pub pools : Pools table (10 ^ 9) workers seats
+    pub at : AreAt table seats
+    pub met : HaveMet workers seats
+    pub pools : Pools table rule (10 ^ 9) workers seats
     -- the entry counts of the desks that were closed with these seats, in the rooms' order
     pub fronts : List ℕ
     pub closed : AreFronts table.desks seats fronts
@@ -73,11 +86,11 @@ module _ {S W : Type 0} (source : sources.Ghosts S) (sink : sinks.Ghosts W) (on_
 
   -- rooms were served with this limit, and the call ended with this status; the line of a fault is written to the
   -- errors
-  pub record Serves {E : Type 0} (errors_sink : sinks.Ghosts E) (rooms : List Text) (limit workers status : ℕ)
-      (input input' : S) (output output' : W) (errors errors' : E) : Type 0 where
+  pub record Serves {E : Type 0} (errors_sink : sinks.Ghosts E) (rooms : List Text) (limit workers : ℕ)
+      (rule : Admitted) (status : ℕ) (input input' : S) (output output' : W) (errors errors' : E) : Type 0 where
     pub range : status ≤ 2
     pub done : status ≡ 0 → ((base : Rows Global) × BeginsOn source on_base input base
-        × ServesAll sink rooms base limit workers output output') × (errors' ≡ errors)
+        × ServesAll sink rooms base limit workers rule output output') × (errors' ≡ errors)
     pub failed : 0 < status → (fault : ProgramFault) × (status ≡ fault_status fault)
         × Takes errors_sink errors errors' (fault_line fault)
         × StopsBy rooms input input' output output' fault

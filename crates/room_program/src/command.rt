@@ -3,7 +3,7 @@ ghost use Rattle.std.specs.Prelude.{◌≡◌, ◌≤◌, ◌⊎◌, ℕ, Bool, 
 ghost use Rattle.clap.specs.Words.{kind_of};
 ghost use Rattle.room_program.specs.Commands.{AsksForReplay, AsksForServe, Replays};
 ghost use Rattle.room_program.specs.Faults.{Takes, TakesOne, fault_line, fault_status, names_row, unsound_line};
-ghost use Rattle.room_program.specs.Servings.{Serves};
+ghost use Rattle.room_program.specs.Servings.{Serves, rule_of_asked};
 ghost use Rattle.room_program.specs.declared.asked.ServeOptions.{ServeOptions};
 ghost use Rattle.room_program.specs.CommandLine.{asks_for_help, has_mistake, is_mistake, is_request};
 
@@ -83,7 +83,7 @@ where
         errors.new)
         ⊎ ((asked : ServeOptions) × AsksForServe texts asked
         × Serves S.Source W.Sink asked.base E.Sink (map (λ room. room.now) asked.rooms.items) asked.limit asked.workers
-        result input.old input.new output.old output.new errors.old errors.new)
+        (rule_of_asked asked) result input.old input.new output.old output.new errors.old errors.new)
         ⊎ ((asks_for_help texts ≡ true) × (result ≡ 0) × (input.new ≡ input.old)
         × TakesOne W.Sink output.old output.new × (errors.new ≡ errors.old))
         ⊎ ((has_mistake texts ≡ true) × (result ≡ 2) × (input.new ≡ input.old)
@@ -136,12 +136,13 @@ fn run_server<R, S: Source, W: Sink, E: Sink>(
 ) -> u8
 where
     R: Net<Listener = TcpListener, Stream = TcpStream> + Threads + Wait + Clock + Log + Sync,
-    requires workers { asked.now.workers ≤ 64 }
+    requires workers { asked.now.workers ≤ 1024 }
     requires input_works { S.has_failed input.old ≡ false }
     requires output_works { W.has_failed output.old ≡ false }
     requires errors_work { E.has_failed errors.old ≡ false }
     ensures { Serves S.Source W.Sink asked.now.base E.Sink
-        (map (λ room. room.now) asked.now.rooms.items) asked.now.limit asked.now.workers result
+        (map (λ room. room.now) asked.now.rooms.items) asked.now.limit asked.now.workers
+        (rule_of_asked asked.now) result
         input.old input.new output.old output.new errors.old errors.new }
 {
     match serve(rt, alloc, asked, input, output) {

@@ -1,5 +1,5 @@
 //! Laws about the definitions, each the contract of a function that does nothing.
-ghost use Rattle.std.specs.Prelude.{◌≡◌, ◌≤◌, ◌<◌, ◌+◌, ◌^◌, ℕ, List, Ok, Some, codes, is_some, true};
+ghost use Rattle.std.specs.Prelude.{◌≡◌, ◌≤◌, ◌<◌, ◌+◌, ◌^◌, ℕ, List, IfSome, Ok, Some, codes, is_some, true};
 ghost use Rattle.room_server.specs.Prelude.{Global, is_sound, Rows, Holds, IsJournal};
 ghost use Rattle.room_program.specs.LineAnswers.{answered, opened_on};
 ghost use Rattle.room_program.specs.Scripts.{Loss, room_after};
@@ -26,15 +26,15 @@ pub fn command_lines_are_as_worked()
     ensures version_asked { version_asked }
 {}
 
-/// Accepted arguments have a limit of at most a million, written or by default. Those that ask to serve have 1 to 64
-/// workers and 1 to a million sessions.
+/// Accepted arguments have a limit of at most a million, written or by default. Those that ask to serve have 1 to 1024
+/// workers, and either no number of sessions or 1 to a million.
 pub fn limits_are_in_range()
     ensures told { (words : List (List ℕ)) → IsTaken words → is_some (limit_text words) ≡ true }
     ensures small { (words : List (List ℕ)) → IsTaken words → limit_asked words ≤ 1000000 }
     ensures workers { (words : List (List ℕ)) → IsTaken words → subcommand_asked words ≡ Some (codes "serve")
-        → (1 ≤ workers_asked words) × (workers_asked words ≤ 64) }
+        → (1 ≤ workers_asked words) × (workers_asked words ≤ 1024) }
     ensures sessions { (words : List (List ℕ)) → IsTaken words → subcommand_asked words ≡ Some (codes "serve")
-        → (1 ≤ sessions_asked words) × (sessions_asked words ≤ 1000000) }
+        → IfSome (sessions_asked words) (λ sessions. (1 ≤ sessions) × (sessions ≤ 1000000)) }
 {}
 
 /// The relations of streams are facts of the system's streams. If they count some reads, the system's stream answered

@@ -1,8 +1,9 @@
 //! Serving rooms to clients.
-ghost use Rattle.std.specs.Prelude.{◌≡◌, ◌≤◌, ◌^◌, IfErr, IfOk, OnOk, false, true, length, map};
+ghost use Rattle.std.specs.Prelude.{◌≡◌, ◌≤◌, ◌^◌, IfErr, IfOk, OnOk, false, true, length, map, option_map, string_bytes};
 ghost use Rattle.room_server.specs.Prelude.{Global, Rows, are_of_kinds, AreInOrder, Opens};
+ghost use Rattle.room_socket.specs.Admitting.{rule_of};
 ghost use Rattle.room_program.specs.Bases.{BeginsOn, IsUnread};
-ghost use Rattle.room_program.specs.Servings.{CanBeServed, IsUnopened, ServesAll, StopsBy};
+ghost use Rattle.room_program.specs.Servings.{CanBeServed, IsUnopened, ServesAll, StopsBy, rule_of_asked};
 ghost use Rattle.room_program.specs.Streams.{GetsAtMost};
 
 use crate::asked::ServeOptions;
@@ -13,10 +14,11 @@ use crate::sink::Sink;
 use crate::source::{MOST_READS, Source};
 use crate::tell::tell;
 use log::Log;
+use osm_elements::Memory;
 use osm_elements::map::Rows;
 use room_history::laws::legal_histories_hold;
 use room_server::{Load, RoomNames, RoomSeat, RoomTable, close_all, serve_rooms};
-use room_socket::OpenGate;
+use room_socket::{Admission, OpenGate};
 use std::alloc::Global;
 use std::net::{Net, TcpListener, TcpStream};
 use std::sync::Wait;
@@ -33,7 +35,8 @@ pub const MOST_TURNS: u64 = 1_000_000_000;
 // The line that is written once clients can connect.
 const LISTENING: &str = "listening\n";
 
-/// Serves the rooms that `asked` names, and returns after the last session.
+/// Serves the rooms that `asked` names, and returns after the last session. Without a number of sessions it does not
+/// return.
 ///
 /// Each room begins with the empty map or, if a base is asked for, with the map in the first line of `input`. The bytes
 /// after that line are not served.
@@ -63,12 +66,13 @@ pub fn serve<R, S: Source, W: Sink>(
 ) -> Result<(), ProgramFault>
 where
     R: Net<Listener = TcpListener, Stream = TcpStream> + Threads + Wait + Clock + Log + Sync,
-    requires workers { asked.now.workers ≤ 64 }
+    requires workers { asked.now.workers ≤ 1024 }
     requires input_works { S.has_failed input.old ≡ false }
     requires works { W.has_failed output.old ≡ false }
     ensures ok { let rooms = map (λ room. room.now) asked.now.rooms.items in
         OnOk result ((base : Rows Global) × BeginsOn S.Source asked.now.base input.old base
-        × ServesAll W.Sink rooms base asked.now.limit asked.now.workers output.old output.new) }
+        × ServesAll W.Sink rooms base asked.now.limit asked.now.workers (rule_of_asked asked.now)
+        output.old output.new) }
     ensures err { let rooms = map (λ room. room.now) asked.now.rooms.items in
         IfErr result
         (λ fault. StopsBy S.Source W.Sink asked.now.base rooms input.old input.new output.old output.new fault) }
@@ -77,6 +81,7 @@ where
 {
     legal_histories_hold::<Global>();
     let (table, seats) = open_table(alloc, asked, input)?;
+    let admission = admission_of(alloc, asked)?;
     let Ok(listener) = TcpListener::bind(rt, asked.addr) else {
         return Err(ProgramFault::Listen);
     };
@@ -86,13 +91,47 @@ where
         sessions: asked.sessions,
         turns: MOST_TURNS,
     };
-    let seats = serve_rooms(rt, alloc, &OpenGate, &listener, &table, seats, load)?;
+    let seats = serve_rooms(
+        rt, alloc, &OpenGate, &listener, &table, seats, &admission, load,
+    )?;
     let fronts = close_all(rt, alloc, table, seats)?;
     let lines = front_lines(alloc, &asked.rooms, &fronts)?;
     if is_told {
         tell(output, &lines);
     }
     Ok(())
+}
+
+// Returns whom the server lets in.
+fn admission_of(alloc: Global, asked: &ServeOptions<'_>) -> Result<Admission, Memory>
+    ensures { IfOk result (λ admission. rule_of admission ≡ rule_of_asked asked.now) }
+{
+    Ok(Admission {
+        name_header: owned(alloc, asked.name_header)?,
+        watchers: asked.watchers,
+        origins: all_owned(alloc, &asked.origins)?,
+    })
+}
+
+// Returns a copy of a text, if there is one.
+fn owned(alloc: Global, text: Option<&str>) -> Result<Option<String>, Memory>
+    ensures { IfOk result (λ copy. option_map string_bytes copy ≡ option_map (λ text. text.now) text.entry) }
+{
+    match text {
+        Some(text) => Ok(Some(String::from_str(alloc, text)?)),
+        None => Ok(None),
+    }
+}
+
+// Returns copies of texts, in order.
+fn all_owned(alloc: Global, texts: &[&str]) -> Result<Vec<String>, Memory>
+    ensures { IfOk result (λ copies. map string_bytes copies.items ≡ map (λ text. text.now) texts.now) }
+{
+    let mut copies = Vec::new(alloc);
+    for text in texts {
+        copies.push(String::from_str(alloc, text)?)?;
+    }
+    Ok(copies)
 }
 
 // Opens the rooms, if they are at most 64 and each has a name of its own.

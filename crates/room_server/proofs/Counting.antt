@@ -30,9 +30,9 @@ if_none (Some x) f p = tt
 
 -- ---- parts
 
--- the first seat of a desk has parts for 64 splits
-pub first_parts : (count : ℕ) (seats : List SeatView) → count ≤ 64 → All IsFirst seats → HavePartsFor count seats
-first_parts count seats most first = all_from (λ seat. (count * 2 ^ 58 ≤ seat.parts + 1) × (seat.parts + 1 ≤ 2 ^ 64)) seats
+-- the first seat of a desk has parts for 1024 splits
+pub first_parts : (count : ℕ) (seats : List SeatView) → count ≤ 1024 → All IsFirst seats → HavePartsFor count seats
+first_parts count seats most first = all_from (λ seat. (count * 2 ^ 52 ≤ seat.parts + 1) × (seat.parts + 1 ≤ 2 ^ 64)) seats
     (λ i seat at. let is = (all_at IsFirst seats i seat first at).parts in (omega (arith, is, most), omega (arith, is)))
 
 pub first_own : (seats : List SeatView) → All IsFirst seats → All (λ seat. seat.mine ≡ []) seats
@@ -50,19 +50,19 @@ first_met seats first = all_from (λ seat. (seat.number ≡ 0) × (length seat.m
     (λ i seat at. let is = all_at IsFirst seats i seat first at in (is.number, ap length is.met))
 
 pub parts_for_one : (count : ℕ) (seats : List SeatView) → 0 < count → HavePartsFor count seats → HavePartsFor 1 seats
-parts_for_one count seats some have = all_from (λ seat. (1 * 2 ^ 58 ≤ seat.parts + 1) × (seat.parts + 1 ≤ 2 ^ 64)) seats
-    (λ i seat at. let had = all_at (λ seat. (count * 2 ^ 58 ≤ seat.parts + 1) × (seat.parts + 1 ≤ 2 ^ 64)) seats i seat have at in
+parts_for_one count seats some have = all_from (λ seat. (1 * 2 ^ 52 ≤ seat.parts + 1) × (seat.parts + 1 ≤ 2 ^ 64)) seats
+    (λ i seat at. let had = all_at (λ seat. (count * 2 ^ 52 ≤ seat.parts + 1) × (seat.parts + 1 ≤ 2 ^ 64)) seats i seat have at in
     let enough = had.0 in (omega (arith, enough, some), had.1))
 
--- a split gives a 64th of the parts away
-gives_little : (parts count : ℕ) → suc count * 2 ^ 58 ≤ parts + 1 → parts + 1 ≤ 2 ^ 64 → (count * 2 ^ 58 ≤ (parts - share parts) + 1) × ((parts - share parts) + 1 ≤ 2 ^ 64)
+-- a split gives a 4096th of the parts away
+gives_little : (parts count : ℕ) → suc count * 2 ^ 52 ≤ parts + 1 → parts + 1 ≤ 2 ^ 64 → (count * 2 ^ 52 ≤ (parts - share parts) + 1) × ((parts - share parts) + 1 ≤ 2 ^ 64)
 gives_little parts count enough most = (omega (arith, enough, most), omega (arith, enough, most))
 
 module _ (seats kept new : List SeatView) (are : AreSplit seats kept new) where
   pub parts_left : (count : ℕ) → HavePartsFor (suc count) seats → HavePartsFor count kept
-  parts_left count have = all_from (λ seat. (count * 2 ^ 58 ≤ seat.parts + 1) × (seat.parts + 1 ≤ 2 ^ 64)) kept one
+  parts_left count have = all_from (λ seat. (count * 2 ^ 52 ≤ seat.parts + 1) × (seat.parts + 1 ≤ 2 ^ 64)) kept one
     where
-      one : (i : ℕ) (k : SeatView) → slice_get kept i ≡ Some k → (count * 2 ^ 58 ≤ k.parts + 1) × (k.parts + 1 ≤ 2 ^ 64)
+      one : (i : ℕ) (k : SeatView) → slice_get kept i ≡ Some k → (count * 2 ^ 52 ≤ k.parts + 1) × (k.parts + 1 ≤ 2 ^ 64)
       one i k at =
           let below = slice_get_within kept i k at in
           let many = are.as_many in
@@ -70,8 +70,8 @@ module _ (seats kept new : List SeatView) (are : AreSplit seats kept new) where
           let was = there_is seats i (omega (arith, below, many)) in
           let other = there_is new i (omega (arith, below, many, of_new)) in
           let split = are.split i was.0 k other.0 was.1 at other.1 in
-          let had = all_at (λ seat. (suc count * 2 ^ 58 ≤ seat.parts + 1) × (seat.parts + 1 ≤ 2 ^ 64)) seats i was.0 have was.1 in
-          subst (λ parts. (count * 2 ^ 58 ≤ parts + 1) × (parts + 1 ≤ 2 ^ 64)) (sym split.parts.1) (gives_little was.0.parts count had.0 had.1)
+          let had = all_at (λ seat. (suc count * 2 ^ 52 ≤ seat.parts + 1) × (seat.parts + 1 ≤ 2 ^ 64)) seats i was.0 have was.1 in
+          subst (λ parts. (count * 2 ^ 52 ≤ parts + 1) × (parts + 1 ≤ 2 ^ 64)) (sym split.parts.1) (gives_little was.0.parts count had.0 had.1)
 
   pub met_left : (count : ℕ) → HaveMet count seats → HaveMet count kept
   met_left count have = all_from (λ seat. (seat.number ≡ 0) × (length seat.met ≡ count)) kept one

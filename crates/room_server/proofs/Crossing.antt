@@ -25,6 +25,8 @@ use Rattle.std.proofs.net.tcp.TcpStream.TheSendSync as stream
 use Rattle.crossbeam_channel.specs.contracts.channel.Receiver as Receiver
 use Rattle.crossbeam_channel.proofs.channel.Receiver.TheSendSync as receiver
 use Rattle.room_server.specs.contracts.job.Job as Job
+use Rattle.room_socket.specs.contracts.admission.Admission as Admission
+use Rattle.room_socket.proofs.admission.Admission.TheSendSync as admission
 use Rattle.room_server.proofs.job.Job.TheSendSync as job
 use Rattle.room_server.specs.contracts.table.RoomTable as RoomTable
 
@@ -51,3 +53,6 @@ jobs_sync = search (sendable, crosses, receiver.the_sync, job.the_send, stream.t
 
 pub u64_send : IsSend (u64-field).row
 u64_send = search sendable
+
+pub admission_sync : IsSync Admission.the_row
+admission_sync = search (sendable, crosses, admission.the_sync, send, sync, frees) depth 14

@@ -6,3 +6,4 @@ mod Parts
 mod Pooling
 mod Seating
 mod Splitting
+mod Sums

@@ -1,7 +1,7 @@
 -- No part of a desk is lost by splits, by work and by meetings.
 use Rattle.std.proofs.Common.{◌≡◌, ℕ, ◌+◌, ◌*◌, ◌^◌, ◌≤◌, ◌-◌, List, [], ◌∷◌, ◌++◌, All, Option, Some, None, length, slice_get, map, refl, ◌∙◌, ap, sym, arith, option_map}
 use Rattle.std.proofs.lemmas.Option.{slice_get-map, slice_get_within}
-use Rattle.room_server.specs.Prelude.{IsFirst, share, Pairs, Works, AreMet, AreSplit, HavePartsFor, AreAt, Mark, SeatView, TableView, mark}
+use Rattle.room_server.specs.Prelude.{IsFirst, share, Pairs, Works, AreMet, AreSplit, HavePartsFor, AreAt, Mark, Rule, SeatView, TableView, mark}
 use Rattle.room_server.specs.Inner.Parts.{parts_at, parts_in}
 use Rattle.room_server.proofs.Counting.{all_at, all_from, there_is}
 
@@ -25,7 +25,7 @@ module _ (seats kept new : List SeatView) (are : AreSplit seats kept new) (have 
           let parts = (are.split room s k n was kept_at new_at).parts in
           let of_new = parts.0 in
           let of_kept = parts.1 in
-          let had = (all_at (λ seat. (1 * 2 ^ 58 ≤ seat.parts + 1) × (seat.parts + 1 ≤ 2 ^ 64)) seats room s have was).0 in
+          let had = (all_at (λ seat. (1 * 2 ^ 52 ≤ seat.parts + 1) × (seat.parts + 1 ≤ 2 ^ 64)) seats room s have was).0 in
           omega (arith, of_new, of_kept, had)
       by (Some s) None n was kept_at new_at =
           let below = slice_get_within seats room s was in
@@ -99,13 +99,13 @@ module _ (lent back : List SeatView) (same : map mark back ≡ map mark lent) (r
   pub same_parts : parts_at (slice_get back room) ≡ parts_at (slice_get lent room)
   same_parts = sym (of_marks back) ∙ ap (λ marks. parts_of (slice_get marks room)) same ∙ of_marks lent
 
-pub worked_parts : (table : TableView) (turns : ℕ) (lent back : List (List SeatView)) → Pairs (Works table turns) lent back → (room : ℕ) → parts_in room back ≡ parts_in room lent
-worked_parts table turns [] [] works room = refl
-worked_parts table turns [] (b ∷ back) works room = absurd works
-worked_parts table turns (l ∷ lent) [] works room = absurd works
-worked_parts table turns (l ∷ lent) (b ∷ back) works room =
+pub worked_parts : (table : TableView) (rule : Rule) (turns : ℕ) (lent back : List (List SeatView)) → Pairs (Works table rule turns) lent back → (room : ℕ) → parts_in room back ≡ parts_in room lent
+worked_parts table rule turns [] [] works room = refl
+worked_parts table rule turns [] (b ∷ back) works room = absurd works
+worked_parts table rule turns (l ∷ lent) [] works room = absurd works
+worked_parts table rule turns (l ∷ lent) (b ∷ back) works room =
     let one = same_parts l b works.0.same room in
-    let later = worked_parts table turns lent back works.1 room in
+    let later = worked_parts table rule turns lent back works.1 room in
     omega (arith, one, later)
 
 -- the first seats have all parts, if none of their parts is elsewhere

@@ -1,10 +1,15 @@
 -- The entry counts of the rooms of a table that is closed.
-use Rattle.std.specs.Prelude.{◌≡◌, ◌≢◌, ◌-◌, ◌^◌, ℕ, List, [], Some, length, slice_get}
+use Rattle.std.specs.Prelude.{◌≡◌, ◌≢◌, ◌+◌, ◌-◌, ◌^◌, ℕ, List, [], ◌∷◌, Some, length, slice_get}
 use Rattle.room_socket.specs.Prelude.{Global, IsTurn, History, IsLegal, BeginsWith}
 use Rattle.turn_desk.specs.Desk.{HasKin, kin}
-use Rattle.turn_desk.specs.History.{IsAmong, entries_by}
+use Rattle.turn_desk.specs.History.{AreApart, IsAmong, entries_by}
 use Rattle.room_history.specs.declared.entry.Entry.{Entry}
 use Rattle.room_server.specs.Tables.{DeskView, SeatView}
+
+-- the calls of all of these numbers together
+abbrev pub calls_of : {E : Type 0} → List (ℕ × List E) → ℕ
+calls_of [] = 0
+calls_of (k ∷ ks) = length k.1 + calls_of ks
 
 -- the number is the length of a legal history of the desk, which begins with all that the seat has seen and has the
 -- entries of each of its kin
@@ -14,6 +19,10 @@ pub record IsFront (desk : DeskView) (seat : SeatView) (front : ℕ) : Type 0 wh
   pub begins : BeginsWith h seat.seen
   -- if the seat has all parts, no entry is another's than its kin's
   pub all : seat.parts ≡ 2 ^ 64 - 1 → (n : ℕ) → entries_by n h ≢ [] → IsAmong n (kin seat)
+  -- no number is that of two of its kin
+  pub apart : AreApart (kin seat)
+  -- then the number is that of the accepted calls of all its kin
+  pub sum : seat.parts ≡ 2 ^ 64 - 1 → front ≡ calls_of (kin seat)
   pub kin : HasKin h seat
   pub count : front ≡ length h
 

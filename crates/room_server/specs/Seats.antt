@@ -4,9 +4,9 @@ use Rattle.room_socket.specs.Prelude.{IsTurn}
 use Rattle.turn_desk.specs.Desk.{MeetsAt, SplitsInto}
 use Rattle.room_server.specs.Tables.{AreAt, DeskView, SeatView, TableView}
 
--- Each seat can be split `count` times. A split gives away a 64th of the seat's parts, and a desk has 2^64 - 1 parts.
+-- Each seat can be split `count` times. A split gives away a 4096th of the seat's parts, and a desk has 2^64 - 1 parts.
 abbrev pub HavePartsFor : ℕ → List SeatView → Type 0
-HavePartsFor count seats = All (λ seat. (count * 2 ^ 58 ≤ seat.parts + 1) × (seat.parts + 1 ≤ 2 ^ 64)) seats
+HavePartsFor count seats = All (λ seat. (count * 2 ^ 52 ≤ seat.parts + 1) × (seat.parts + 1 ≤ 2 ^ 64)) seats
 
 -- each of the seats was split in two
 pub record AreSplit (seats kept new : List SeatView) : Type 0 where

@@ -18,16 +18,21 @@ const DEAF_SECONDS: u64 = 30;
 // the next accept would fail at once, and would also use up a session.
 const FAILED_MILLIS: u64 = 50;
 
-/// Accepts `sessions` times, and sends each connection to the workers as a session, numbered from 1.
+/// Accepts `sessions` times, or without end, and sends each connection to the workers as a session, numbered from 1.
 ///
 /// An accept that fails is a session too: the log gets `session I end fault`, and the next accept waits for 50 ms.
 pub(crate) fn accept_all<R: Wait + Log + Clock>(
     rt: &R,
     listener: &TcpListener,
     jobs: &Sender<Job<TcpStream>, Global>,
-    sessions: u32,
+    sessions: Option<u32>,
 ) {
-    for session in 1..=u64::from(sessions) {
+    let mut session = 0;
+    for _ in rt.forever() {
+        if sessions.is_some_and(|most| session >= u64::from(most)) {
+            break;
+        }
+        session = session.saturating_add(1);
         match accept(listener) {
             Ok(stream) => {
                 let _ = jobs.send(rt, Job::Serve { session, stream });

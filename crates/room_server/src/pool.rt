@@ -1,6 +1,7 @@
 //! A pool of workers.
 ghost use Rattle.std.specs.Prelude.{◌≡◌, ◌≤◌, All, IfOk};
 ghost use Rattle.turn_desk.specs.Desk.{IsFirst};
+ghost use Rattle.room_socket.specs.Prelude.{rule_of};
 ghost use Rattle.room_server.specs.Pools.{Pools};
 ghost use Rattle.room_server.specs.Seats.{HaveMet};
 ghost use Rattle.room_server.specs.Tables.{AreAt};
@@ -12,7 +13,7 @@ use crate::threads::run_threads;
 use crossbeam_channel::bounded;
 use log::Log;
 use osm_elements::Memory;
-use room_socket::Gate;
+use room_socket::{Admission, Gate};
 use std::alloc::Global;
 use std::net::TcpListener;
 use std::sync::Wait;
@@ -25,8 +26,8 @@ use thiserror::Error;
 pub struct Load {
     /// The number of workers, each in its own thread. So many sessions are served at the same time.
     pub workers: u32,
-    /// The number of connections that are accepted, in order.
-    pub sessions: u32,
+    /// The number of connections that are accepted, in order. Without it, the pool serves until the process is stopped.
+    pub sessions: Option<u32>,
     /// The most messages that a session reads.
     pub turns: u64,
 }
@@ -52,7 +53,8 @@ impl From<Memory> for PoolFault {
     }
 }
 
-/// Serves `load.sessions` connections that the listener accepts, by `load.workers` workers, at most 64.
+/// Serves `load.sessions` connections that the listener accepts and `admission` lets in, by `load.workers` workers, at most 1024. Without a
+/// number of sessions, it does not return.
 ///
 /// When the last session has ended, it returns a seat at each desk of the table. Each of these seats has met the seats
 /// of all workers.
@@ -68,16 +70,17 @@ pub fn serve_rooms<R: Threads + Wait + Clock + Log + Sync, G: Gate + Sync>(
     listener: &TcpListener,
     table: &RoomTable,
     seats: Vec<RoomSeat, Global>,
+    admission: &Admission,
     load: Load,
 ) -> Result<Vec<RoomSeat, Global>, PoolFault>
     requires at { AreAt table.now seats.items }
     requires first { All IsFirst seats.items }
-    requires workers { load.workers ≤ 64 }
+    requires workers { load.workers ≤ 1024 }
     ensures at { IfOk result (λ back. AreAt table.now back.items) }
     // Each seat has met one seat of each worker: no seat was lost.
     ensures met { IfOk result (λ back. HaveMet load.workers back.items) }
     // Each worker served sessions through seats that were fresh; the calls of these are all that the seats have met.
-    ensures pools { IfOk result (λ back. Pools table.now load.turns load.workers back.items) }
+    ensures pools { IfOk result (λ back. Pools table.now (rule_of admission.now) load.turns load.workers back.items) }
 {
     let (mut seats, sets) = split_sets(alloc, table, seats, load.workers)?;
     let (sender, jobs) = bounded(alloc, load.workers as usize)?;
@@ -89,6 +92,7 @@ pub fn serve_rooms<R: Threads + Wait + Clock + Log + Sync, G: Gate + Sync>(
         table,
         sets,
         (sender, &jobs),
+        admission,
         load,
     );
     if let Some(fault) = joined.fault {

@@ -1,6 +1,6 @@
 //! The threads of a pool.
 ghost use Rattle.std.specs.Prelude.{◌≡◌, ℕ, All, IfNone, None, map, vec_items, vec_len};
-ghost use Rattle.room_socket.specs.Prelude.{IsSync, ServesEach};
+ghost use Rattle.room_socket.specs.Prelude.{IsSync, ServesEach, rule_of};
 ghost use Rattle.room_server.specs.Pools.{Pairs, Works};
 ghost use Rattle.room_server.specs.Seats.{IsFresh, IsSet};
 ghost use Rattle.room_server.specs.Tables.{AreAt, known_through, mark};
@@ -13,7 +13,7 @@ use crate::table::RoomTable;
 use crate::workers::worker;
 use crossbeam_channel::{Receiver, Sender};
 use log::Log;
-use room_socket::Gate;
+use room_socket::{Admission, Gate};
 use std::alloc::Global;
 use std::net::{TcpListener, TcpStream};
 use std::snapshot::Snapshot;
@@ -28,16 +28,18 @@ use std::time::Clock;
 pub(crate) struct GivesBack<'t> {
     table: &'t RoomTable,
     turns: u64,
+    admission: &'t Admission,
     lent: Snapshot<Vec<RoomSeat, Global>>,
 }
 
 impl<'t> Promise<Vec<RoomSeat, Global>> for GivesBack<'t> {
     ghost use Rattle.std.specs.Prelude.{◌≡◌, ℕ, map};
     ghost use Rattle.room_server.specs.Tables.{AreAt, known_through, mark};
-    ghost use Rattle.room_socket.specs.Serving.{ServesEach};
+    ghost use Rattle.room_socket.specs.Prelude.{ServesEach, rule_of};
 
     ghost kept_by = { λ p back. AreAt p.table.now back.items × (map mark back.items ≡ map mark p.lent.value.items)
-        × ((sessions : ℕ) × ServesEach p.turns sessions (known_through p.table.now p.lent.value.items)
+        × ((sessions : ℕ) × ServesEach (rule_of p.admission.now) p.turns sessions
+        (known_through p.table.now p.lent.value.items)
         (known_through p.table.now back.items)) };
 }
 
@@ -68,6 +70,7 @@ pub(crate) fn run_threads<R: Threads + Wait + Clock + Log + Sync, G: Gate + Sync
         Sender<Job<TcpStream>, Global>,
         &Receiver<Job<TcpStream>, Global>,
     ),
+    admission: &Admission,
     load: Load,
 ) -> Joined
     requires { All (λ set. IsFresh table.now set.items) sets.items }
@@ -76,7 +79,8 @@ pub(crate) fn run_threads<R: Threads + Wait + Clock + Log + Sync, G: Gate + Sync
     ensures all { IfNone result.fault (vec_len result.sets ≡ vec_len sets) }
     // A worker was lent each set, and gave it back.
     ensures works { IfNone result.fault
-        (Pairs (Works table.now load.turns) (map vec_items sets.items) (map vec_items result.sets.items)) }
+        (Pairs (Works table.now (rule_of admission.now) load.turns) (map vec_items sets.items)
+        (map vec_items result.sets.items)) }
 {
     let (sender, jobs) = ends;
     thread::scope(
@@ -88,7 +92,8 @@ pub(crate) fn run_threads<R: Threads + Wait + Clock + Log + Sync, G: Gate + Sync
             ensures sets { All (λ set. IsSet table.entry.now set.items) result.sets.items }
             ensures all { IfNone result.fault (vec_len result.sets ≡ vec_len sets) }
             ensures works { IfNone result.fault
-                (Pairs (Works table.entry.now load.turns) (map vec_items sets.items) (map vec_items result.sets.items)) }
+                (Pairs (Works table.entry.now (rule_of admission.entry.now) load.turns) (map vec_items sets.items)
+                (map vec_items result.sets.items)) }
         {
             let mut threads = Vec::new(alloc);
             let mut fault = None;
@@ -97,15 +102,16 @@ pub(crate) fn run_threads<R: Threads + Wait + Clock + Log + Sync, G: Gate + Sync
                 let promise = GivesBack {
                     table,
                     turns: load.turns,
+                    admission,
                     lent,
                 };
                 let work = move || -> Vec<RoomSeat, Global>
                     requires { AreAt table.now seats.items }
                     ensures at { AreAt table.entry.now result.items }
                     ensures same { map mark result.items ≡ map mark seats.items }
-                    ensures serves { (sessions : ℕ) × ServesEach load.turns sessions
+                    ensures serves { (sessions : ℕ) × ServesEach (rule_of admission.entry.now) load.turns sessions
                         (known_through table.entry.now seats.items) (known_through table.entry.now result.items) }
-                { worker(rt, alloc, gate, table, seats, jobs, load.turns) };
+                { worker(rt, alloc, gate, table, seats, jobs, load.turns, admission) };
                 // The list gets its memory before the thread starts, so that each started thread is also joined.
                 if threads.reserve(1).is_err() {
                     fault = Some(PoolFault::Memory);
@@ -126,7 +132,7 @@ pub(crate) fn run_threads<R: Threads + Wait + Clock + Log + Sync, G: Gate + Sync
                 let _ = sender.send(rt, Job::Stop);
             }
             drop(sender);
-            join_all(rt, alloc, table, load.turns, threads, fault)
+            join_all(rt, alloc, table, load.turns, admission, threads, fault)
         },
     )
 }
@@ -137,14 +143,15 @@ fn join_all<R: Threads>(
     alloc: Global,
     table: &RoomTable,
     turns: u64,
+    admission: &Admission,
     threads: Vec<WorkerThread<'_>, Global>,
     fault: Option<PoolFault>,
 ) -> Joined
     requires { All (λ thread. (thread.promise.table.now ≡ table.now) × (thread.promise.turns ≡ turns)
-        × IsFresh table.now thread.promise.lent.value.items) threads.items }
+        × (thread.promise.admission.now ≡ admission.now) × IsFresh table.now thread.promise.lent.value.items) threads.items }
     ensures sets { All (λ set. IsSet table.now set.items) result.sets.items }
     ensures all { IfNone result.fault ((fault ≡ None) × (vec_len result.sets ≡ vec_len threads.entry)) }
-    ensures works { IfNone result.fault (Pairs (Works table.now turns)
+    ensures works { IfNone result.fault (Pairs (Works table.now (rule_of admission.now) turns)
         (map (λ thread. thread.promise.lent.value.items) threads.entry.items) (map vec_items result.sets.items)) }
 {
     let mut sets = Vec::new(alloc);

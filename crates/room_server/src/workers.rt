@@ -1,6 +1,6 @@
 //! Workers.
 ghost use Rattle.std.specs.Prelude.{◌≡◌, ℕ, map};
-ghost use Rattle.room_socket.specs.Prelude.{KeepsKnown, ServesEach};
+ghost use Rattle.room_socket.specs.Prelude.{KeepsKnown, ServesEach, rule_of};
 ghost use Rattle.room_server.specs.Tables.{AreAt, known_through, mark};
 
 use crate::job::Job;
@@ -9,7 +9,7 @@ use crate::seats::RoomSeat;
 use crate::table::RoomTable;
 use crossbeam_channel::Receiver;
 use log::{Log, info};
-use room_socket::{Gate, serve};
+use room_socket::{Admission, Gate, serve};
 use std::alloc::Global;
 use std::io::{Read, Write};
 use std::sync::Wait;
@@ -28,6 +28,7 @@ pub fn worker<W: Wait + Clock + Log, G: Gate, S: Read + Write + Drop>(
     seats: Vec<RoomSeat, Global>,
     jobs: &Receiver<Job<S>, Global>,
     turns: u64,
+    admission: &Admission,
 ) -> Vec<RoomSeat, Global>
     requires { AreAt table.now seats.items }
     ensures at { AreAt table.now result.items }
@@ -35,7 +36,8 @@ pub fn worker<W: Wait + Clock + Log, G: Gate, S: Read + Write + Drop>(
     ensures keeps { KeepsKnown (known_through table.now seats.items) (known_through table.now result.items) }
     // The rooms were asked what some sessions ask sequentially, and nothing else.
     ensures serves { (sessions : ℕ)
-        × ServesEach turns sessions (known_through table.now seats.items) (known_through table.now result.items) }
+        × ServesEach (rule_of admission.now) turns sessions (known_through table.now seats.items)
+        (known_through table.now result.items) }
 {
     let mut rooms = Seated::new(table, seats);
     for _ in rt.forever() {
@@ -43,7 +45,9 @@ pub fn worker<W: Wait + Clock + Log, G: Gate, S: Read + Write + Drop>(
             break;
         };
         info!(rt; "session {session} open");
-        let end = serve(rt, alloc, stream, &mut rooms, gate, session, turns);
+        let end = serve(
+            rt, alloc, stream, &mut rooms, gate, session, turns, admission,
+        );
         info!(rt; "session {session} end {end}");
     }
     rooms.into_seats()

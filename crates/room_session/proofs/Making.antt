@@ -2,8 +2,9 @@
 use Rattle.std.proofs.Common.{◌≡◌, ◌≢◌, ◌⊎◌, ◌++◌, ℕ, List, [], ◌∷◌, Option, Some, None, Result, Ok, Err, IfOk, OnErr, refl, ◌∙◌, sym, ap, subst, inl, inr, append-nil, arith}
 use Rattle.std.proofs.lemmas.Bool.{cases_eq}
 use Rattle.std.proofs.lemmas.List.{append_cancel_left}
-use Rattle.room_session.specs.Prelude.{AllocError, Global, Author, answer, answer_by, call_refusal, meant, IsTurn, RoomCall, RoomReply, Call, Entry, EntryKind, Reply, Opening, Bad, Body, Hello, Change, Get, Map, Undos, Incoming, GivesMessage, spells, Next, Sent, State, BeforeHello, Open, Closed, AsksForNews, Begins, BeginsBy, CatchesUp, FindsNoNews, Greets, HearsText, Makes, MakesBy, Replies, Known, RoomKnown, AnswersCall, TellsLength, MakesNone, MakesOne}
+use Rattle.room_session.specs.Prelude.{AllocError, Global, Author, answer, answer_by, call_refusal, meant, IsTurn, RoomCall, RoomReply, Call, Entry, EntryKind, Reply, Opening, Bad, Body, Hello, Change, Get, Map, Undos, Incoming, GivesMessage, spells, Next, Sent, State, BeforeHello, Open, Closed, Barred, Caller, Speaker, asked, greeted, AsksForNews, AsksIfAny, Begins, BeginsBy, CatchesUp, FindsNoNews, Greets, GreetsAs, HearsText, Makes, MakesBy, MakesChange, Replies, RepliesTo, RepliesToWatcher, Known, RoomKnown, AnswersCall, TellsLength, MakesNone, MakesOne}
 use Rattle.room_interface.specs.declared.ask.RoomCall.TheVariants as calls
+use Rattle.room_session.specs.declared.caller.Speaker.TheVariants as speakers
 
 -- ---- what one turn adds
 
@@ -97,55 +98,74 @@ caught_up_makes_none before room told after (inl finds) = looks_make_none before
 caught_up_makes_none before room told after (inr asks) = news_make_none before room told after asks
 
 -- if nothing is made afterwards, what a message makes is unchanged
-makes_by_then : (before middle after : Known) (room : ℕ) (author : Author) (id : ℕ) (body : Body) → MakesBy before room author id body middle → MakesNone middle after → MakesBy before room author id body after
-makes_by_then before middle after room author id (Change request) (inl none) later = inl (none_then before middle after none later)
-makes_by_then before middle after room author id (Change request) (inr one) later =
+makes_change_then : (before middle after : Known) (room : ℕ) (speaker : Speaker) (id : ℕ) → MakesChange before room speaker id middle → MakesNone middle after → MakesChange before room speaker id after
+makes_change_then before middle after room (speakers.Author author) id (inl none) later = inl (none_then before middle after none later)
+makes_change_then before middle after room (speakers.Author author) id (inr one) later =
     inr (one.0, one.1, one.2, later room ∙ one.3, λ other apart. later other ∙ one.4 other apart)
-makes_by_then before middle after room author id (Hello to name) none later = none_then before middle after none later
-makes_by_then before middle after room author id (Get name) none later = none_then before middle after none later
-makes_by_then before middle after room author id Map none later = none_then before middle after none later
-makes_by_then before middle after room author id Undos none later = none_then before middle after none later
+makes_change_then before middle after room speakers.Watcher id none later = none_then before middle after none later
 
-reply_makes : (before : Known) (room : ℕ) (author : Author) (id : ℕ) (body : Body) (text : List ℕ) (after : Known) → Replies before room author (Ok (record { id = id; body = body })) text after → MakesBy before room author id body after
-reply_makes before room author id (Change request) text after (reply, answers, is) = call_makes before room (record { author = author; id = id; request = request }) reply after answers
-reply_makes before room author id (Hello to name) text after (is, same) = nothing_made before after same
-reply_makes before room author id (Get name) text after (reply, answers, is) = query_makes_none before room (calls.Get name) reply after (λ c same. grind (arith, same)) answers
-reply_makes before room author id Map text after (reply, answers, is) = query_makes_none before room calls.Rows reply after (λ c same. grind (arith, same)) answers
-reply_makes before room author id Undos text after (reply, answers, is) = query_makes_none before room (calls.Undos author) reply after (λ c same. grind (arith, same)) answers
+makes_by_then : (before middle after : Known) (room : ℕ) (speaker : Speaker) (id : ℕ) (body : Body) → MakesBy before room speaker id body middle → MakesNone middle after → MakesBy before room speaker id body after
+makes_by_then before middle after room speaker id (Change request) change later = makes_change_then before middle after room speaker id change later
+makes_by_then before middle after room speaker id (Hello to name) none later = none_then before middle after none later
+makes_by_then before middle after room speaker id (Get name) none later = none_then before middle after none later
+makes_by_then before middle after room speaker id Map none later = none_then before middle after none later
+makes_by_then before middle after room speaker id Undos none later = none_then before middle after none later
 
-text_makes : (before middle after : Known) (room : ℕ) (author : Author) (told : ℕ) (said : Result Incoming Bad) (text : List ℕ) → Replies before room author said text middle → MakesNone middle after → Makes before (Open room author told) said after
-text_makes before middle after room author told (Ok message) text replies later =
-    makes_by_then before middle after room author message.id message.body (reply_makes before room author message.id message.body text middle replies) later
-text_makes before middle after room author told (Err bad) text replies later = none_then before middle after (nothing_made before middle replies.1) later
+author_makes : (before : Known) (room : ℕ) (author : Author) (id : ℕ) (body : Body) (text : List ℕ) (after : Known) → AsksIfAny before room id (asked author id body) text after → MakesBy before room (speakers.Author author) id body after
+author_makes before room author id (Change request) text after (reply, answers, is) = call_makes before room (record { author = author; id = id; request = request }) reply after answers
+author_makes before room author id (Hello to name) text after (is, same) = nothing_made before after same
+author_makes before room author id (Get name) text after (reply, answers, is) = query_makes_none before room (calls.Get name) reply after (λ c same. grind (arith, same)) answers
+author_makes before room author id Map text after (reply, answers, is) = query_makes_none before room calls.Rows reply after (λ c same. grind (arith, same)) answers
+author_makes before room author id Undos text after (reply, answers, is) = query_makes_none before room (calls.Undos author) reply after (λ c same. grind (arith, same)) answers
 
-greeting_makes_none : (before : Known) (sent : Sent) (state : State) (after : Known) (id : ℕ) (author : Author) (place : Option ℕ) → Greets before sent state after id author place → MakesNone before after
-greeting_makes_none before sent state after id author None refuses = nothing_made before after refuses.1
-greeting_makes_none before sent state after id author (Some room) (reply, answers, goes) = query_makes_none before room calls.Rows reply after (λ c same. grind (arith, same)) answers
+watcher_makes : (before : Known) (room id : ℕ) (body : Body) (text : List ℕ) (after : Known) → RepliesToWatcher before room id body text after → MakesBy before room speakers.Watcher id body after
+watcher_makes before room id (Change request) text after (is, same) = nothing_made before after same
+watcher_makes before room id (Hello to name) text after (is, same) = nothing_made before after same
+watcher_makes before room id (Get name) text after (reply, answers, is) = query_makes_none before room (calls.Get name) reply after (λ c same. grind (arith, same)) answers
+watcher_makes before room id Map text after (reply, answers, is) = query_makes_none before room calls.Rows reply after (λ c same. grind (arith, same)) answers
+watcher_makes before room id Undos text after (is, same) = nothing_made before after same
 
-begin_makes_none : (before : Known) (sent : Sent) (state : State) (after : Known) (id : ℕ) (body : Body) → BeginsBy before sent state after id body → MakesNone before after
-begin_makes_none before sent state after id (Hello room author) begins = greeting_makes_none before sent state after id author (before.place room) begins
-begin_makes_none before sent state after id (Change request) begins = nothing_made before after begins.1
-begin_makes_none before sent state after id (Get name) begins = nothing_made before after begins.1
-begin_makes_none before sent state after id Map begins = nothing_made before after begins.1
-begin_makes_none before sent state after id Undos begins = nothing_made before after begins.1
+reply_makes : (before : Known) (room : ℕ) (speaker : Speaker) (id : ℕ) (body : Body) (text : List ℕ) (after : Known) → RepliesTo before room speaker id body text after → MakesBy before room speaker id body after
+reply_makes before room (speakers.Author author) id body text after replies = author_makes before room author id body text after replies
+reply_makes before room speakers.Watcher id body text after replies = watcher_makes before room id body text after replies
 
-first_makes_none : (before : Known) (sent : Sent) (state : State) (after : Known) (said : Result Incoming Bad) → Begins before sent state after said → MakesNone before after
-first_makes_none before sent state after (Ok message) begins = begin_makes_none before sent state after message.id message.body begins
-first_makes_none before sent state after (Err bad) begins = nothing_made before after begins.1
+text_makes : (before middle after : Known) (room : ℕ) (speaker : Speaker) (told : ℕ) (said : Result Incoming Bad) (text : List ℕ) → Replies before room speaker said text middle → MakesNone middle after → Makes before (Open room speaker told) said after
+text_makes before middle after room speaker told (Ok message) text replies later =
+    makes_by_then before middle after room speaker message.id message.body (reply_makes before room speaker message.id message.body text middle replies) later
+text_makes before middle after room speaker told (Err bad) text replies later = none_then before middle after (nothing_made before middle replies.1) later
+
+greeting_makes_none : (caller : Caller) (before : Known) (sent : Sent) (state : State) (after : Known) (id : ℕ) (speaker : Speaker) (place : Option ℕ) → Greets caller before sent state after id speaker place → MakesNone before after
+greeting_makes_none caller before sent state after id speaker None refuses = nothing_made before after refuses.1
+greeting_makes_none caller before sent state after id speaker (Some room) (reply, answers, goes) = query_makes_none before room calls.Rows reply after (λ c same. grind (arith, same)) answers
+
+hello_makes_none : (caller : Caller) (before : Known) (sent : Sent) (state : State) (after : Known) (id : ℕ) (speaker : Result Speaker Barred) (place : Option ℕ) → GreetsAs caller before sent state after id speaker place → MakesNone before after
+hello_makes_none caller before sent state after id (Ok speaker) place greets = greeting_makes_none caller before sent state after id speaker place greets
+hello_makes_none caller before sent state after id (Err barred) place refuses = nothing_made before after refuses.1
+
+begin_makes_none : (caller : Caller) (before : Known) (sent : Sent) (state : State) (after : Known) (id : ℕ) (body : Body) → BeginsBy caller before sent state after id body → MakesNone before after
+begin_makes_none caller before sent state after id (Hello room author) begins = hello_makes_none caller before sent state after id (greeted caller author) (before.place room) begins
+begin_makes_none caller before sent state after id (Change request) begins = nothing_made before after begins.1
+begin_makes_none caller before sent state after id (Get name) begins = nothing_made before after begins.1
+begin_makes_none caller before sent state after id Map begins = nothing_made before after begins.1
+begin_makes_none caller before sent state after id Undos begins = nothing_made before after begins.1
+
+first_makes_none : (caller : Caller) (before : Known) (sent : Sent) (state : State) (after : Known) (said : Result Incoming Bad) → Begins caller before sent state after said → MakesNone before after
+first_makes_none caller before sent state after (Ok message) begins = begin_makes_none caller before sent state after message.id message.body begins
+first_makes_none caller before sent state after (Err bad) begins = nothing_made before after begins.1
 
 abbrev MakesText : Known → State → List ℕ → Known → Type 0
 MakesText before old text after = (said : Result Incoming Bad) × GivesMessage said (spells text) × Makes before old said after
 
 -- a text makes at most its own change's entry
 pub hearing_makes : (before : Known) (sent : Sent) (state : State) (after : Known) (old : State) (text : List ℕ) → HearsText before sent state after old text → MakesText before old text after
-hearing_makes before sent state after BeforeHello text (said, gives, inl begins) = (said, gives, first_makes_none before sent state after said begins)
-hearing_makes before sent state after BeforeHello text (said, gives, inr (up, (due, next, begins))) = (said, gives, first_makes_none before due next after said begins)
-hearing_makes before sent state after (Open room author told) text (said, gives, inl (reply, between, replies, catches)) =
-    (said, gives, text_makes before between after room author told said reply replies (caught_up_makes_none between room told after catches.0))
-hearing_makes before sent state after (Open room author told) text (said, gives, inr (up, (reply, between, replies, inl same))) =
-    (said, gives, text_makes before between after room author told said reply replies (nothing_made between after same))
-hearing_makes before sent state after (Open room author told) text (said, gives, inr (up, (reply, between, replies, inr asks))) =
-    (said, gives, text_makes before between after room author told said reply replies (news_make_none between room told after asks))
+hearing_makes before sent state after (BeforeHello caller) text (said, gives, inl begins) = (said, gives, first_makes_none caller before sent state after said begins)
+hearing_makes before sent state after (BeforeHello caller) text (said, gives, inr (up, (due, next, begins))) = (said, gives, first_makes_none caller before due next after said begins)
+hearing_makes before sent state after (Open room speaker told) text (said, gives, inl (reply, between, replies, catches)) =
+    (said, gives, text_makes before between after room speaker told said reply replies (caught_up_makes_none between room told after catches.0))
+hearing_makes before sent state after (Open room speaker told) text (said, gives, inr (up, (reply, between, replies, inl same))) =
+    (said, gives, text_makes before between after room speaker told said reply replies (nothing_made between after same))
+hearing_makes before sent state after (Open room speaker told) text (said, gives, inr (up, (reply, between, replies, inr asks))) =
+    (said, gives, text_makes before between after room speaker told said reply replies (news_make_none between room told after asks))
 hearing_makes before sent state after Closed text hears = absurd hears
 
 gives_itself : (said : Result Incoming Bad) → GivesMessage said said
@@ -158,10 +178,10 @@ ended_makes before after old text closed same =
     (spells text, gives_itself (spells text), subst (λ (s : State). Makes before s (spells text) after) (sym closed) (nothing_made before after same))
 
 -- if nothing came, no entry is made, whether or not the news could be sent
-pub wait_makes_none : (before after : Known) (sent : Next → Sent) (state : Next → State) (room : ℕ) (author : Author) (told : ℕ) (made : Result Next AllocError)
-    → IfOk made (λ n. CatchesUp before (sent n) (state n) after room author told []) → OnErr made (AsksForNews before room told after) → MakesNone before after
-wait_makes_none before after sent state room author told (Ok n) ok err = caught_up_makes_none before room told after ok.0
-wait_makes_none before after sent state room author told (Err e) ok err = news_make_none before room told after err
+pub wait_makes_none : (before after : Known) (sent : Next → Sent) (state : Next → State) (room : ℕ) (speaker : Speaker) (told : ℕ) (made : Result Next AllocError)
+    → IfOk made (λ n. CatchesUp before (sent n) (state n) after room speaker told []) → OnErr made (AsksForNews before room told after) → MakesNone before after
+wait_makes_none before after sent state room speaker told (Ok n) ok err = caught_up_makes_none before room told after ok.0
+wait_makes_none before after sent state room speaker told (Err e) ok err = news_make_none before room told after err
 
 -- the same, for an equal state of knowledge
 pub makes_none_to : (before after made_after : Known) → after ≡ made_after → MakesNone before made_after → MakesNone before after

@@ -7,6 +7,10 @@ use Rattle.room_history.specs.Prelude.{wanting, news, mapof}
 use Rattle.room_interface.specs.declared.ask.RoomCall.{RoomCall}
 use Rattle.room_interface.specs.declared.ask.RoomReply.{RoomReply}
 use Rattle.room_interface.specs.declared.author.Author.{Author}
+use Rattle.room_session.specs.Callers.{barred_text, greeted}
+use Rattle.room_session.specs.declared.caller.Barred.{Barred}
+use Rattle.room_session.specs.declared.caller.Caller.{Caller}
+use Rattle.room_session.specs.declared.caller.Speaker.{Speaker}
 use Rattle.room_wire.specs.declared.bad.Bad.{Bad}
 use Rattle.room_wire.specs.declared.incoming.Body.{Body}
 use Rattle.room_wire.specs.declared.incoming.Body.TheVariants.{Hello, Change, Get, Map, Undos}
@@ -17,6 +21,8 @@ use Rattle.room_session.specs.declared.session.State.TheVariants.{BeforeHello, O
 use Rattle.room_session.specs.NewsTexts.{news_texts}
 use Rattle.room_session.specs.Rooms.{Known, AnswersCall, TellsLength, IsJournalOf, MakesNone, MakesOne}
 use Rattle.room_interface.specs.declared.ask.RoomCall.TheVariants as calls
+use Rattle.room_session.specs.declared.caller.Speaker.TheVariants as speakers
+use Rattle.room_wire.specs.declared.answer.Answer.{Answer}
 use Rattle.room_wire.specs.declared.answer.Answer.TheVariants as answers
 
 -- these texts go out, and the connection stays open
@@ -34,34 +40,40 @@ GivesUp sent state = (sent ≡ closing 1011) × (state ≡ Closed)
 -- ---- before a hello
 
 -- one text goes out, and the session stays before its hello
-abbrev pub Refuses : Sent → State → List ℕ → Type 0
-Refuses sent state text = (sent ≡ only (text ∷ [])) × (state ≡ BeforeHello)
+abbrev pub Refuses : Caller → Sent → State → List ℕ → Type 0
+Refuses caller sent state text = (sent ≡ only (text ∷ [])) × (state ≡ BeforeHello caller)
 
-module _ (before : Known) (sent : Sent) (state : State) (after : Known) where
+module _ (caller : Caller) (before : Known) (sent : Sent) (state : State) (after : Known) where
   -- the same, and no room is asked
   abbrev pub RefusesAlone : List ℕ → Type 0
-  RefusesAlone text = Refuses sent state text × (after ≡ before)
+  RefusesAlone text = Refuses caller sent state text × (after ≡ before)
 
   -- The session opens. What has then been seen of the room is a legal journal, whose map and length go out.
-  abbrev pub Welcomes : ℕ → ℕ → Author → Type 0
-  Welcomes id room author =
+  abbrev pub Welcomes : ℕ → ℕ → Speaker → Type 0
+  Welcomes id room speaker =
       let opening = (before.at room).opening in
       let journal = (after.at room).seen in
       IsJournalOf opening journal
       × (sent ≡ only (compact_text (map_tree id (mapof opening.base journal) (length journal)) ∷ []))
-      × (state ≡ Open room author (length journal))
+      × (state ≡ Open room speaker (length journal))
 
   -- A hello to the room at a position, if there is one. The session asks the room for its rows in one turn. It answers
   -- `memory` if the room had no memory for them.
-  abbrev pub Greets : ℕ → Author → Option ℕ → Type 0
-  Greets id author None = RefusesAlone (answer_text id answers.NoRoom)
-  Greets id author (Some room) =
+  abbrev pub Greets : ℕ → Speaker → Option ℕ → Type 0
+  Greets id speaker None = RefusesAlone (answer_text id answers.NoRoom)
+  Greets id speaker (Some room) =
       (reply : RoomReply Global) × AnswersCall before room calls.Rows reply after
-      × (Welcomes id room author ⊎ ((reply ≡ wanting calls.Rows) × Refuses sent state (answer_text id answers.Memory)))
+      × (Welcomes id room speaker
+      ⊎ ((reply ≡ wanting calls.Rows) × Refuses caller sent state (answer_text id answers.Memory)))
+
+  -- a hello of a caller who may speak as somebody, or who is refused
+  abbrev pub GreetsAs : ℕ → Result Speaker Barred → Option ℕ → Type 0
+  GreetsAs id (Ok speaker) place = Greets id speaker place
+  GreetsAs id (Err barred) place = RefusesAlone (barred_text id barred)
 
   -- the outcome of a message before a hello
   abbrev pub BeginsBy : ℕ → Body → Type 0
-  BeginsBy id (Hello room author) = Greets id author (before.place room)
+  BeginsBy id (Hello room author) = GreetsAs id (greeted caller author) (before.place room)
   BeginsBy id (Change request) = RefusesAlone (answer_text id answers.NoHello)
   BeginsBy id (Get name) = RefusesAlone (answer_text id answers.NoHello)
   BeginsBy id Map = RefusesAlone (answer_text id answers.NoHello)
@@ -72,24 +84,45 @@ module _ (before : Known) (sent : Sent) (state : State) (after : Known) where
   Begins (Err bad) = RefusesAlone (answer_text bad.id (answers.Fault bad.fault))
 
 -- a text came before a hello, but an allocation for its outcome failed
-abbrev pub EndsFirst : Known → Known → Result Incoming Bad → Type 0
-EndsFirst before after said = (due : Sent) × (next : State) × Begins before due next after said
+abbrev pub EndsFirst : Caller → Known → Known → Result Incoming Bad → Type 0
+EndsFirst caller before after said = (due : Sent) × (next : State) × Begins caller before due next after said
 
 -- ---- in an open session
 
--- the session asks the room in one turn, and the text is that of the answer; or the message asks nothing of the room
-abbrev pub RepliesTo : Known → ℕ → ℕ → Option (RoomCall Global) → List ℕ → Known → Type 0
-RepliesTo before room id None text after = (text ≡ answer_text id answers.HelloTwice) × (after ≡ before)
-RepliesTo before room id (Some call) text after =
+-- the session asks the room in one turn, and the text is that of the answer
+abbrev pub Asks : Known → ℕ → ℕ → RoomCall Global → List ℕ → Known → Type 0
+Asks before room id call text after =
     (reply : RoomReply Global) × AnswersCall before room call reply after
     × (text ≡ answer_text id (answer_to reply))
 
+-- the text is this answer's, and no room is asked
+abbrev pub AnswersAlone : Known → ℕ → Answer → List ℕ → Known → Type 0
+AnswersAlone before id answer text after = (text ≡ answer_text id answer) × (after ≡ before)
+
+-- the message asks the room, or it is another hello
+abbrev pub AsksIfAny : Known → ℕ → ℕ → Option (RoomCall Global) → List ℕ → Known → Type 0
+AsksIfAny before room id None text after = AnswersAlone before id answers.HelloTwice text after
+AsksIfAny before room id (Some call) text after = Asks before room id call text after
+
+-- the text is the reply to a message of a watcher, who makes no change and has no undo list
+abbrev pub RepliesToWatcher : Known → ℕ → ℕ → Body → List ℕ → Known → Type 0
+RepliesToWatcher before room id (Change request) text after = AnswersAlone before id answers.NoName text after
+RepliesToWatcher before room id Undos text after = AnswersAlone before id answers.NoName text after
+RepliesToWatcher before room id (Hello to name) text after = AnswersAlone before id answers.HelloTwice text after
+RepliesToWatcher before room id (Get name) text after = Asks before room id (calls.Get name) text after
+RepliesToWatcher before room id Map text after = Asks before room id calls.Rows text after
+
+-- the text is the reply to a message of this speaker
+abbrev pub RepliesTo : Known → ℕ → Speaker → ℕ → Body → List ℕ → Known → Type 0
+RepliesTo before room (speakers.Author author) id body text after =
+    AsksIfAny before room id (asked author id body) text after
+RepliesTo before room speakers.Watcher id body text after = RepliesToWatcher before room id body text after
+
 -- the text is the reply to the message that was read, or its refusal
-abbrev pub Replies : Known → ℕ → Author → Result Incoming Bad → List ℕ → Known → Type 0
-Replies before room author (Ok message) text after =
-    RepliesTo before room message.id (asked author message.id message.body) text after
-Replies before room author (Err bad) text after =
-    (text ≡ answer_text bad.id (answers.Fault bad.fault)) × (after ≡ before)
+abbrev pub Replies : Known → ℕ → Speaker → Result Incoming Bad → List ℕ → Known → Type 0
+Replies before room speaker (Ok message) text after =
+    RepliesTo before room speaker message.id message.body text after
+Replies before room speaker (Err bad) text after = AnswersAlone before bad.id (answers.Fault bad.fault) text after
 
 -- a look at the room found no entries after `told`
 abbrev pub FindsNoNews : Known → ℕ → ℕ → Known → Type 0
@@ -103,24 +136,24 @@ AsksForNews before room told after =
 
 -- The texts go out, and then the news of all entries after `told`, up to the last one seen of the room. What has been
 -- seen is a legal journal.
-abbrev pub CatchesUp : Known → Sent → State → Known → ℕ → Author → ℕ → List (List ℕ) → Type 0
-CatchesUp before sent state after room author told texts =
+abbrev pub CatchesUp : Known → Sent → State → Known → ℕ → Speaker → ℕ → List (List ℕ) → Type 0
+CatchesUp before sent state after room speaker told texts =
     let opening = (before.at room).opening in
     let journal = (after.at room).seen in
     (FindsNoNews before room told after ⊎ AsksForNews before room told after)
     × IsJournalOf opening journal × (sent ≡ only (texts ++ news_texts (news opening.base journal told)))
-    × (state ≡ Open room author (length journal))
+    × (state ≡ Open room speaker (length journal))
 
 -- a text gets its reply, and then the news
-abbrev pub GoesOn : Known → Sent → State → Known → ℕ → Author → ℕ → Result Incoming Bad → Type 0
-GoesOn before sent state after room author told said =
-    (text : List ℕ) × (between : Known) × Replies before room author said text between
-    × CatchesUp between sent state after room author told (text ∷ [])
+abbrev pub GoesOn : Known → Sent → State → Known → ℕ → Speaker → ℕ → Result Incoming Bad → Type 0
+GoesOn before sent state after room speaker told said =
+    (text : List ℕ) × (between : Known) × Replies before room speaker said text between
+    × CatchesUp between sent state after room speaker told (text ∷ [])
 
 -- a text came, but an allocation for its reply, or for the news after it, failed
-abbrev pub BreaksOff : Known → Known → ℕ → Author → ℕ → Result Incoming Bad → Type 0
-BreaksOff before after room author told said =
-    (text : List ℕ) × (between : Known) × Replies before room author said text between
+abbrev pub BreaksOff : Known → Known → ℕ → Speaker → ℕ → Result Incoming Bad → Type 0
+BreaksOff before after room speaker told said =
+    (text : List ℕ) × (between : Known) × Replies before room speaker said text between
     × ((after ≡ between) ⊎ AsksForNews between room told after)
 
 -- ---- events
@@ -128,34 +161,40 @@ BreaksOff before after room author told said =
 module _ (before : Known) (sent : Sent) (state : State) (after : Known) where
   -- a text came, which was read as a message or refused
   abbrev pub HearsText : State → List ℕ → Type 0
-  HearsText BeforeHello text = (said : Result Incoming Bad) × GivesMessage said (spells text)
-      × (Begins before sent state after said ⊎ (GivesUp sent state × EndsFirst before after said))
-  HearsText (Open room author told) text = (said : Result Incoming Bad) × GivesMessage said (spells text)
-      × (GoesOn before sent state after room author told said
-      ⊎ (GivesUp sent state × BreaksOff before after room author told said))
+  HearsText (BeforeHello caller) text = (said : Result Incoming Bad) × GivesMessage said (spells text)
+      × (Begins caller before sent state after said ⊎ (GivesUp sent state × EndsFirst caller before after said))
+  HearsText (Open room speaker told) text = (said : Result Incoming Bad) × GivesMessage said (spells text)
+      × (GoesOn before sent state after room speaker told said
+      ⊎ (GivesUp sent state × BreaksOff before after room speaker told said))
   HearsText Closed text = ⊥
 
   -- nothing came for a while
   abbrev pub WaitsOn : State → Type 0
-  WaitsOn BeforeHello = (sent ≡ only []) × (state ≡ BeforeHello) × (after ≡ before)
-  WaitsOn (Open room author told) =
-      CatchesUp before sent state after room author told [] ⊎ (GivesUp sent state × AsksForNews before room told after)
+  WaitsOn (BeforeHello caller) = (sent ≡ only []) × (state ≡ BeforeHello caller) × (after ≡ before)
+  WaitsOn (Open room speaker told) =
+      CatchesUp before sent state after room speaker told [] ⊎ (GivesUp sent state × AsksForNews before room told after)
   WaitsOn Closed = ⊥
 
 -- ---- the entries that are made
 
--- a change makes at most one entry, of its author, in its room and under the message's id; no other message makes an
--- entry
-abbrev pub MakesBy : Known → ℕ → Author → ℕ → Body → Known → Type 0
-MakesBy before room author id (Change request) after = MakesNone before after ⊎ MakesOne before room author id after
-MakesBy before room author id (Hello to name) after = MakesNone before after
-MakesBy before room author id (Get name) after = MakesNone before after
-MakesBy before room author id Map after = MakesNone before after
-MakesBy before room author id Undos after = MakesNone before after
+-- a change of an author makes at most one entry, of this author, in this room and under the message's id; a watcher's
+-- makes none
+abbrev pub MakesChange : Known → ℕ → Speaker → ℕ → Known → Type 0
+MakesChange before room (speakers.Author author) id after =
+    MakesNone before after ⊎ MakesOne before room author id after
+MakesChange before room speakers.Watcher id after = MakesNone before after
+
+-- no other message makes an entry
+abbrev pub MakesBy : Known → ℕ → Speaker → ℕ → Body → Known → Type 0
+MakesBy before room speaker id (Change request) after = MakesChange before room speaker id after
+MakesBy before room speaker id (Hello to name) after = MakesNone before after
+MakesBy before room speaker id (Get name) after = MakesNone before after
+MakesBy before room speaker id Map after = MakesNone before after
+MakesBy before room speaker id Undos after = MakesNone before after
 
 -- a text before a hello makes no entry, and neither does a text that is refused
 abbrev pub Makes : Known → State → Result Incoming Bad → Known → Type 0
-Makes before (Open room author told) (Ok message) after = MakesBy before room author message.id message.body after
-Makes before (Open room author told) (Err bad) after = MakesNone before after
-Makes before BeforeHello said after = MakesNone before after
+Makes before (Open room speaker told) (Ok message) after = MakesBy before room speaker message.id message.body after
+Makes before (Open room speaker told) (Err bad) after = MakesNone before after
+Makes before (BeforeHello caller) said after = MakesNone before after
 Makes before Closed said after = MakesNone before after

@@ -1,3 +1,4 @@
+pub mod Callers
 pub mod Events
 pub mod Facts
 pub mod Inner

@@ -17,11 +17,17 @@ pub use Rattle.room_interface.specs.declared.call.Call.{Call}
 pub use Rattle.room_interface.specs.declared.call.Request.{Request}
 pub use Rattle.room_interface.specs.declared.news.News.{News}
 pub use Rattle.room_interface.specs.declared.reply.Reply.{Reply}
-pub use Rattle.room_session.specs.Events.{AsksForNews, Begins, BeginsBy, BreaksOff, CatchesUp, EndsFirst, FindsNoNews, GivesUp, GoesOn, Greets, HearsText, Makes, MakesBy, Refuses, Replies, RepliesTo, WaitsOn, closing, only}
+pub use Rattle.room_session.specs.Callers.{IsOf, MakesAs, MayBe, MaySpeakAs, barred_text, greeted}
+pub use Rattle.room_session.specs.Events.{AnswersAlone, Asks, AsksForNews, AsksIfAny, Begins, BeginsBy, BreaksOff, CatchesUp, EndsFirst, FindsNoNews, GivesUp, GoesOn, Greets, GreetsAs, HearsText, Makes, MakesBy, MakesChange, Refuses, Replies, RepliesTo, RepliesToWatcher, WaitsOn, closing, only}
+pub use Rattle.room_session.specs.Facts.Naming.{both_made_as, none_made_as, quiet_stays, text_made_as, text_stays}
 pub use Rattle.room_session.specs.Facts.Running.{answers_keep, joined, keeps_all, keeps_both, keeps_to, looks_keep, not_shorter}
 pub use Rattle.room_session.specs.NewsTexts.{news_texts}
 pub use Rattle.room_session.specs.Rooms.{AnswersAt, AnswersCall, HasRoom, IsJournalOf, KeepsKnown, Known, LeavesOthers, MakesNone, MakesOne, RoomKnown, TellsLength}
 pub use Rattle.room_session.specs.Running.{IsRunOn}
+pub use Rattle.room_session.specs.declared.caller.Barred.{Barred}
+pub use Rattle.room_session.specs.declared.caller.Caller.{Caller}
+pub use Rattle.room_session.specs.declared.caller.Caller.TheVariants.{Anyone, Nobody, Only}
+pub use Rattle.room_session.specs.declared.caller.Speaker.{Speaker}
 pub use Rattle.room_session.specs.declared.next.Next.{Next}
 pub use Rattle.room_session.specs.declared.sent.Sent.{Sent}
 pub use Rattle.room_session.specs.declared.session.State.{State}

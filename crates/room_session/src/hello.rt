@@ -4,6 +4,7 @@ ghost use Rattle.room_wire.specs.Prelude.{Global, answer_text, GivesMessage, spe
 ghost use Rattle.room_interface.specs.declared.ask.RoomReply.{RoomReply};
 ghost use Rattle.room_session.specs.declared.sent.Sent.{Sent};
 ghost use Rattle.room_session.specs.declared.session.State.{State};
+ghost use Rattle.room_session.specs.Callers.{barred_text};
 ghost use Rattle.room_session.specs.Events.{only, Begins, BeginsBy, EndsFirst, Greets, Refuses};
 ghost use Rattle.room_session.specs.Rooms.{AnswersCall, KeepsKnown, HasRoom};
 ghost use Rattle.room_session.specs.Running.{IsRunOn};
@@ -11,13 +12,13 @@ ghost use Rattle.room_wire.specs.declared.bad.Bad.{Bad};
 ghost use Rattle.room_wire.specs.declared.incoming.Incoming.{Incoming};
 ghost use Rattle.room_interface.specs.declared.ask.RoomCall.TheVariants as calls;
 
+use crate::caller::{Barred, Caller, Speaker};
 use crate::next::Next;
 use crate::rooms::Rooms;
 use crate::sent::Texts;
 use crate::session::State;
 use osm_elements::Memory;
 use room_interface::ask::{RoomCall, RoomReply};
-use room_interface::author::Author;
 use room_wire::answer::Answer;
 use room_wire::incoming::{Body, Incoming};
 use room_wire::{Scratch, read_request, reply_text};
@@ -29,19 +30,20 @@ pub(crate) fn greet<R: Rooms, W: Wait>(
     alloc: Global,
     rt: &W,
     rooms: &mut R,
+    caller: &Caller,
     text: &str,
     scratch: &mut Scratch,
 ) -> Result<Next, Memory>
     ensures text { (said : Result Incoming Bad) × GivesMessage said (spells text.now) × MatchResult result
-        (λ next. Begins (R.known rooms.old) (only next.texts) next.state (R.known rooms.new) said)
-        (λ _. EndsFirst (R.known rooms.old) (R.known rooms.new) said) }
+        (λ next. Begins caller.now (R.known rooms.old) (only next.texts) next.state (R.known rooms.new) said)
+        (λ _. EndsFirst caller.now (R.known rooms.old) (R.known rooms.new) said) }
     ensures keeps { KeepsKnown (R.known rooms.old) (R.known rooms.new) }
     ensures kept { R.kept rooms.new ≡ R.kept rooms.old }
     ensures runs { IfOk result (λ next. IsRunOn next.state (R.known rooms.new)) }
 {
     match read_request(alloc, text, scratch) {
-        Ok(message) => begin(alloc, rt, rooms, message),
-        Err(bad) => refuse(alloc, bad.id, &Answer::Fault(bad.fault)),
+        Ok(message) => begin(alloc, rt, rooms, caller, message),
+        Err(bad) => refuse(alloc, caller, bad.id, &Answer::Fault(bad.fault)),
     }
 }
 
@@ -50,24 +52,29 @@ fn begin<R: Rooms, W: Wait>(
     alloc: Global,
     rt: &W,
     rooms: &mut R,
+    caller: &Caller,
     message: Incoming,
 ) -> Result<Next, Memory>
     ensures message { MatchResult result
-        (λ next. BeginsBy (R.known rooms.old) (only next.texts) next.state (R.known rooms.new) message.id message.body)
+        (λ next. BeginsBy caller.now (R.known rooms.old) (only next.texts) next.state (R.known rooms.new)
+        message.id message.body)
         (λ _. (due : Sent) × (next : State)
-        × BeginsBy (R.known rooms.old) due next (R.known rooms.new) message.id message.body) }
+        × BeginsBy caller.now (R.known rooms.old) due next (R.known rooms.new) message.id message.body) }
     ensures keeps { KeepsKnown (R.known rooms.old) (R.known rooms.new) }
     ensures kept { R.kept rooms.new ≡ R.kept rooms.old }
     ensures runs { IfOk result (λ next. IsRunOn next.state (R.known rooms.new)) }
 {
     let id = message.id;
     match &message.body {
-        Body::Hello { room, name } => match rooms.find(room.as_str()) {
-            Some(room) => welcome(alloc, rt, rooms, id, room, *name),
-            None => refuse(alloc, id, &Answer::NoRoom),
+        Body::Hello { room, name } => match caller.greet(name) {
+            Ok(speaker) => match rooms.find(room.as_str()) {
+                Some(room) => welcome(alloc, rt, rooms, caller, id, room, &speaker),
+                None => refuse(alloc, caller, id, &Answer::NoRoom),
+            },
+            Err(barred) => bar(alloc, caller, id, &barred),
         },
         Body::Change(_) | Body::Get(_) | Body::Map | Body::Undos => {
-            refuse(alloc, id, &Answer::NoHello)
+            refuse(alloc, caller, id, &Answer::NoHello)
         }
     }
 }
@@ -77,13 +84,15 @@ fn welcome<R: Rooms, W: Wait>(
     alloc: Global,
     rt: &W,
     rooms: &mut R,
+    caller: &Caller,
     id: u64,
     room: usize,
-    author: Author,
+    speaker: &Speaker,
 ) -> Result<Next, Memory>
     requires { HasRoom (R.known rooms.old) room }
     ensures ok { IfOk result
-        (λ next. Greets (R.known rooms.old) (only next.texts) next.state (R.known rooms.new) id author (Some room)) }
+        (λ next. Greets caller.now (R.known rooms.old) (only next.texts) next.state (R.known rooms.new)
+        id speaker.now (Some room)) }
     ensures err { OnErr result ((reply : RoomReply Global)
         × AnswersCall (R.known rooms.old) room calls.Rows reply (R.known rooms.new)) }
     ensures keeps { KeepsKnown (R.known rooms.old) (R.known rooms.new) }
@@ -95,19 +104,33 @@ fn welcome<R: Rooms, W: Wait>(
             let rows = &rows;
             let texts = one(alloc, id, &Answer::Map { rows, front })?;
             let told = front;
-            let state = State::Open { room, author, told };
+            let state = State::Open {
+                room,
+                speaker: *speaker,
+                told,
+            };
             Ok(Next { texts, state })
         }
-        _ => refuse(alloc, id, &Answer::Memory),
+        _ => refuse(alloc, caller, id, &Answer::Memory),
+    }
+}
+
+// Refuses a hello, and leaves the session before its hello.
+fn bar(alloc: Global, caller: &Caller, id: u64, barred: &Barred) -> Result<Next, Memory>
+    ensures { IfOk result (λ next. Refuses caller.now (only next.texts) next.state (barred_text id barred.now)) }
+{
+    match barred {
+        Barred::WrongName(name) => refuse(alloc, caller, id, &Answer::WrongName(name.as_str())),
+        Barred::NoName => refuse(alloc, caller, id, &Answer::NoName),
     }
 }
 
 // Sends an answer, and leaves the session before its hello.
-fn refuse(alloc: Global, id: u64, answer: &Answer<'_>) -> Result<Next, Memory>
-    ensures { IfOk result (λ next. Refuses (only next.texts) next.state (answer_text id answer.now)) }
+fn refuse(alloc: Global, caller: &Caller, id: u64, answer: &Answer<'_>) -> Result<Next, Memory>
+    ensures { IfOk result (λ next. Refuses caller.now (only next.texts) next.state (answer_text id answer.now)) }
 {
     let texts = one(alloc, id, answer)?;
-    let state = State::BeforeHello;
+    let state = State::BeforeHello(*caller);
     Ok(Next { texts, state })
 }
 

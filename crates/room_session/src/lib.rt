@@ -9,6 +9,7 @@
 //! reading the client's text or for the room's call fails, the reply is `memory`.
 #![tactic(auto)]
 
+pub mod caller;
 mod hello;
 mod news;
 mod next;

@@ -7,13 +7,13 @@ ghost use Rattle.room_session.specs.NewsTexts.{news_texts};
 ghost use Rattle.room_session.specs.Rooms.{KeepsKnown, HasRoom};
 ghost use Rattle.room_session.specs.Running.{IsRunOn};
 
+use crate::caller::Speaker;
 use crate::next::Next;
 use crate::rooms::Rooms;
 use crate::sent::Texts;
 use crate::session::State;
 use osm_elements::Memory;
 use room_interface::ask::{RoomCall, RoomReply};
-use room_interface::author::Author;
 use room_interface::news::News;
 use room_wire::news_text;
 use std::alloc::Global;
@@ -25,19 +25,19 @@ pub(crate) fn news_alone<R: Rooms, W: Wait>(
     rt: &W,
     rooms: &mut R,
     room: usize,
-    author: Author,
+    speaker: &Speaker,
     told: u64,
 ) -> Result<Next, Memory>
     requires room { HasRoom (R.known rooms.old) room }
     requires told { told ≤ length ((R.known rooms.old).at room).seen }
     ensures ok { IfOk result
-        (λ next. CatchesUp (R.known rooms.old) (only next.texts) next.state (R.known rooms.new) room author told []) }
+        (λ next. CatchesUp (R.known rooms.old) (only next.texts) next.state (R.known rooms.new) room speaker.now told []) }
     ensures err { OnErr result (AsksForNews (R.known rooms.old) room told (R.known rooms.new)) }
     ensures keeps { KeepsKnown (R.known rooms.old) (R.known rooms.new) }
     ensures kept { R.kept rooms.new ≡ R.kept rooms.old }
     ensures runs { IfOk result (λ next. IsRunOn next.state (R.known rooms.new)) }
 {
-    catch_up(alloc, rt, rooms, room, author, told, Texts::empty(alloc))
+    catch_up(alloc, rt, rooms, room, speaker, told, Texts::empty(alloc))
 }
 
 // Sends the texts, and then the news of all entries of the room after `told`. The session's `told` changes only when
@@ -47,7 +47,7 @@ pub(crate) fn catch_up<R: Rooms, W: Wait>(
     rt: &W,
     rooms: &mut R,
     room: usize,
-    author: Author,
+    speaker: &Speaker,
     told: u64,
     mut texts: Texts,
 ) -> Result<Next, Memory>
@@ -55,14 +55,18 @@ pub(crate) fn catch_up<R: Rooms, W: Wait>(
     requires told { told ≤ length ((R.known rooms.old).at room).seen }
     ensures ok { IfOk result
         (λ next. CatchesUp (R.known rooms.old) (only next.texts) next.state
-        (R.known rooms.new) room author told texts) }
+        (R.known rooms.new) room speaker.now told texts) }
     ensures err { OnErr result (AsksForNews (R.known rooms.old) room told (R.known rooms.new)) }
     ensures keeps { KeepsKnown (R.known rooms.old) (R.known rooms.new) }
     ensures kept { R.kept rooms.new ≡ R.kept rooms.old }
     ensures runs { IfOk result (λ next. IsRunOn next.state (R.known rooms.new)) }
 {
     let told = tell(alloc, rt, rooms, room, told, &mut texts)?;
-    let state = State::Open { room, author, told };
+    let state = State::Open {
+        room,
+        speaker: *speaker,
+        told,
+    };
     Ok(Next { texts, state })
 }
 

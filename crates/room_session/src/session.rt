@@ -8,6 +8,7 @@ ghost use Rattle.room_session.specs.Running.{IsRunOn};
 ghost use Rattle.room_wire.specs.declared.bad.Bad.{Bad};
 ghost use Rattle.room_wire.specs.declared.incoming.Incoming.{Incoming};
 
+use crate::caller::{Caller, Speaker};
 use crate::hello::greet;
 use crate::news::news_alone;
 use crate::next::Next;
@@ -15,7 +16,6 @@ use crate::replies::reply_and_news;
 use crate::rooms::Rooms;
 use crate::sent::{Sent, Texts};
 use osm_elements::Memory;
-use room_interface::author::Author;
 use room_wire::Scratch;
 use std::alloc::Global;
 use std::fmt;
@@ -37,14 +37,14 @@ pub struct Ended;
 /// The state of a session.
 #[derive(Clone, Copy, Debug)]
 pub enum State {
-    /// The client has not received a welcome yet.
-    BeforeHello,
+    /// The client has not received a welcome yet, and is this caller.
+    BeforeHello(Caller),
     /// The session has begun.
     Open {
         /// The position of the session's room.
         room: usize,
-        /// The author of the session's calls.
-        author: Author,
+        /// Who speaks in the session.
+        speaker: Speaker,
         /// The number of the last entry that counts as sent to the client.
         told: u64,
     },
@@ -76,12 +76,12 @@ impl Model for Session {
 }
 
 impl Session {
-    /// Returns a session whose client has sent nothing yet.
-    pub fn new(alloc: Global) -> Session
-        ensures { result ≡ BeforeHello }
+    /// Returns a session with this caller, who has sent nothing yet.
+    pub fn new(alloc: Global, caller: Caller) -> Session
+        ensures { result ≡ BeforeHello caller }
     {
         Session {
-            state: State::BeforeHello,
+            state: State::BeforeHello(caller),
             scratch: Scratch::new(alloc),
         }
     }
@@ -117,13 +117,19 @@ impl Session {
         ensures kept { R.kept rooms.new ≡ R.kept rooms.old }
     {
         let next = match &self.state {
-            State::BeforeHello => greet(alloc, rt, rooms, text, &mut self.scratch),
-            State::Open { room, author, told } => reply_and_news(
+            State::BeforeHello(caller) => {
+                greet(alloc, rt, rooms, caller, text, &mut self.scratch)
+            }
+            State::Open {
+                room,
+                speaker,
+                told,
+            } => reply_and_news(
                 alloc,
                 rt,
                 rooms,
                 *room,
-                *author,
+                speaker,
                 *told,
                 text,
                 &mut self.scratch,
@@ -154,10 +160,12 @@ impl Session {
         ensures kept { R.kept rooms.new ≡ R.kept rooms.old }
     {
         let next = match &self.state {
-            State::BeforeHello => Ok(nothing(alloc)),
-            State::Open { room, author, told } => {
-                news_alone(alloc, rt, rooms, *room, *author, *told)
-            }
+            State::BeforeHello(caller) => Ok(nothing(alloc, caller)),
+            State::Open {
+                room,
+                speaker,
+                told,
+            } => news_alone(alloc, rt, rooms, *room, speaker, *told),
             State::Closed => return Err(Ended),
         };
         Ok(self.go(alloc, next))
@@ -223,11 +231,11 @@ impl Session {
 }
 
 // Sends nothing, and leaves the session before its hello.
-fn nothing(alloc: Global) -> Next
-    ensures { result ≡ record { texts = []; state = BeforeHello } }
+fn nothing(alloc: Global, caller: &Caller) -> Next
+    ensures { result ≡ record { texts = []; state = BeforeHello caller.now } }
 {
     Next {
         texts: Texts::empty(alloc),
-        state: State::BeforeHello,
+        state: State::BeforeHello(*caller),
     }
 }

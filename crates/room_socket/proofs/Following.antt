@@ -1,6 +1,6 @@
 -- The calls of a session's core as events, and sequences of events.
 use Rattle.std.proofs.Common.{◌≡◌, ◌≤◌, ◌+◌, ◌++◌, ◌∷◌, [], ℕ, List, length, refl, IfOk, OnErr, Result, Ok, Err, arith, length-append, subst}
-use Rattle.room_socket.specs.Prelude.{Bad, Incoming, GivesMessage, spells, Sent, Ended, State, Closed, HearsText, Makes, WaitsOn, Known, MakesNone, Event, Follows, Happens, Text, Quiet, Last}
+use Rattle.room_socket.specs.Prelude.{Bad, Incoming, GivesMessage, spells, Sent, Ended, State, Closed, HearsText, Makes, WaitsOn, Known, MakesNone, Event, Follows, Happens, InTurns, Text, Quiet, Last}
 
 -- events followed by further events
 pub follows_both : (one two : List Event) (state between state' : State) (before known after : Known) → Follows one state before between known → Follows two between known state' after → Follows (one ++ two) state before state' after
@@ -40,10 +40,6 @@ at_most_one state state' before after one = (one.0 ∷ [], omega arith, one.1)
 -- the session ends, and nothing is asked
 pub ended : (state state' : State) (known : Known) → state' ≡ Closed → AtMostOne state known state' known
 ended state state' known closed = (Last ∷ [], omega arith, (state', known, (closed, refl), (refl, refl)))
-
--- at most this number of events come in this number of turns
-abbrev pub InTurns : ℕ → State → Known → State → Known → Type 0
-InTurns turns state before state' after = (events : List Event) × (length events ≤ turns) × Follows events state before state' after
 
 pub one_turn_more : (turns : ℕ) (state between state' : State) (before known after : Known) → InTurns turns state before between known → AtMostOne between known state' after → InTurns (turns + 1) state before state' after
 one_turn_more turns state between state' before known after first second = (

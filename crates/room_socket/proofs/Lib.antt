@@ -1,3 +1,6 @@
 mod Following
+mod Greeting
+mod Listing
+mod Naming
 mod Talking
 mod Written

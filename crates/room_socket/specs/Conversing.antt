@@ -1,11 +1,11 @@
 -- A conversation with a client: what is read from the socket, what the core of the session gets, and what goes out.
 use Rattle.std.specs.Prelude.{◌≡◌, ◌⊎◌, ℕ, zero, suc, List, Option, Some, None, Result, Ok, Err}
 use Rattle.tungstenite.specs.declared.CloseCode.TheVariants.{Normal}
-use Rattle.tungstenite.specs.Heads.{Serves as Accepted}
 use Rattle.tungstenite.specs.Socket.{Socket, Flushed}
 use Rattle.room_session.specs.Prelude.{GivesMessage, spells, HearsText, Makes, WaitsOn, closing, Known, MakesNone}
 use Rattle.room_wire.specs.declared.bad.Bad.{Bad}
 use Rattle.room_wire.specs.declared.incoming.Incoming.{Incoming}
+use Rattle.room_session.specs.declared.caller.Caller.{Caller}
 use Rattle.room_session.specs.declared.sent.Sent.{Sent}
 use Rattle.room_session.specs.declared.session.Ended.{Ended}
 use Rattle.room_session.specs.declared.session.State.{State}
@@ -13,9 +13,10 @@ use Rattle.room_session.specs.declared.session.State.TheVariants.{BeforeHello, C
 use Rattle.room_socket.specs.declared.end.End.{End}
 use Rattle.room_socket.specs.declared.hearing.Heard.{Heard}
 use Rattle.room_socket.specs.declared.hearing.Heard.TheVariants.{Text, Binary, Other, Quiet, Close, Fault}
-use Rattle.room_socket.specs.declared.patient.Patient.{Patient}
+use Rattle.room_socket.specs.declared.timely.Timely.{Timely}
+use Rattle.room_socket.specs.Admitting.{Admits, Rule}
 use Rattle.room_socket.specs.Hearing.{Hears}
-use Rattle.room_socket.specs.Patience.{remaining_of, contents_of}
+use Rattle.room_socket.specs.Timely.{remaining_of, contents_of}
 use Rattle.room_socket.specs.Sending.{Closes, Sends}
 use Rattle.room_socket.specs.declared.end.End.TheVariants as ends
 
@@ -75,11 +76,17 @@ module _ {S : Type 0} (remaining contents : S → Option (List ℕ)) where
       ⊎ ((next : Socket S) × (later : State) × (between : Known) × TakesTurn old state before None next later between
       × Converses turns next later between end new state' after)
 
+-- the ends of a session whose handshake was not accepted
+abbrev pub IsRefused : End → Type 0
+IsRefused end = (end ≡ ends.Fault) ⊎ (end ≡ ends.Origin)
+
 module _ {S : Type 0} (remaining contents : S → Option (List ℕ)) where
-  -- The handshake failed and the rooms were asked nothing, or a conversation of at most this number of turns followed
-  -- over the socket that the handshake gave (RFC 6455, section 4.2).
-  abbrev pub Talks : ℕ → Known → End → Known → Type 0
-  Talks turns before end after =
-      ((end ≡ ends.Fault) × (after ≡ before))
-      ⊎ ((old new : Socket (Patient S)) × (state : State) × Accepted old
-      × Converses (remaining_of remaining) (contents_of contents) turns old BeforeHello before end new state after)
+  -- The handshake was not accepted and the rooms were asked nothing, or a conversation of at most this number of turns
+  -- with the caller whom the handshake let in followed, over the socket that it gave.
+  abbrev pub Talks : Rule → ℕ → Known → End → Known → Type 0
+  Talks rule turns before end after =
+      (IsRefused end × (after ≡ before))
+      ⊎ ((caller : Caller) × (old : Socket (Timely S)) × (new : Socket (Timely S)) × (state : State)
+      × Admits rule caller old
+      × Converses (remaining_of remaining) (contents_of contents) turns old (BeforeHello caller) before
+      end new state after)

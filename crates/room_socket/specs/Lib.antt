@@ -1,6 +1,7 @@
+pub mod Admitting
 pub mod Conversing
 pub mod Hearing
-pub mod Patience
 pub mod Prelude
 pub mod Sending
 pub mod Serving
+pub mod Timely

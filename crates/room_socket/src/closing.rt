@@ -1,5 +1,5 @@
 //! Closing a connection.
-ghost use Rattle.room_socket.specs.Patience.{remaining_of, contents_of};
+ghost use Rattle.room_socket.specs.Timely.{remaining_of, contents_of};
 ghost use Rattle.room_socket.specs.Sending.{Closes};
 
 use crate::hearing::Socket;

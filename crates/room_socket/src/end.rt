@@ -11,6 +11,8 @@ pub enum End {
     /// An allocation of the session's core for a reply or for the news failed, and the connection was closed with code
     /// 1011.
     Memory,
+    /// The client is a page of an origin that the server does not let in. Nothing more was sent than the refusal.
+    Origin,
     /// The handshake, the stream, the protocol or an allocation for the socket failed. Nothing more was sent.
     Fault,
     /// The session used up its turns, and the connection was closed with code 1000.
@@ -23,6 +25,7 @@ impl fmt::Display for End {
             End::Left => "left",
             End::Binary => "binary",
             End::Memory => "memory",
+            End::Origin => "origin",
             End::Fault => "fault",
             End::Bound => "bound",
         })

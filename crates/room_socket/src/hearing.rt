@@ -1,14 +1,14 @@
 //! Reading from a client.
 ghost use Rattle.std.specs.Prelude.{◌≡◌};
 ghost use Rattle.room_socket.specs.Hearing.{Hears, is_silent};
-ghost use Rattle.room_socket.specs.Patience.{remaining_of};
+ghost use Rattle.room_socket.specs.Timely.{remaining_of};
 
-use crate::patient::{Patient, is_quiet};
+use crate::timely::{Timely, is_quiet};
 use std::io::{Read, Write};
 use tungstenite::{Error, Message, NoMask, Utf8Bytes, WebSocket};
 
-/// A server's WebSocket over a patient stream.
-pub(crate) type Socket<S> = WebSocket<Patient<S>, NoMask>;
+/// A server's WebSocket over a timely stream.
+pub(crate) type Socket<S> = WebSocket<Timely<S>, NoMask>;
 
 /// What a read from the client can yield.
 #[derive(Drop)]

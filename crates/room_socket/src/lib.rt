@@ -5,15 +5,18 @@
 //! can order the sessions' calls by a [`Gate`].
 #![tactic(auto)]
 
+mod admission;
 mod closing;
 mod end;
 mod gate;
+mod handshake;
 mod hearing;
 mod passage;
-mod patient;
 mod sending;
 mod stream;
+mod timely;
 
+pub use admission::Admission;
 pub use end::End;
 pub use gate::{Gate, OpenGate};
 pub use stream::serve;

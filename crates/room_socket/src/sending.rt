@@ -1,6 +1,6 @@
 //! Sending to a client.
 ghost use Rattle.std.specs.Prelude.{◌≡◌, ◌≢◌, [], OnErr, OnOk};
-ghost use Rattle.room_socket.specs.Patience.{remaining_of, contents_of};
+ghost use Rattle.room_socket.specs.Timely.{remaining_of, contents_of};
 ghost use Rattle.room_socket.specs.Sending.{Closes, Sends, SendsTexts, code_of, end_of};
 
 use crate::closing::close;

@@ -3,17 +3,20 @@ ghost use Rattle.std.specs.Prelude.{◌≡◌, ◌≤◌, ◌∷◌, [], List, l
 ghost use Rattle.room_session.specs.Prelude.{KeepsKnown, IsRunOn};
 ghost use Rattle.room_session.specs.declared.session.State.{State};
 ghost use Rattle.room_session.specs.declared.session.State.TheVariants.{BeforeHello};
+ghost use Rattle.room_socket.specs.Admitting.{rule_of};
 ghost use Rattle.room_socket.specs.Conversing.{Converses, Talks, TakesQuiet, TakesText, TakesTurn};
-ghost use Rattle.room_socket.specs.Patience.{remaining_of, contents_of};
-ghost use Rattle.room_socket.specs.Serving.{Serves, Follows, Event};
+ghost use Rattle.room_socket.specs.Timely.{remaining_of, contents_of};
+ghost use Rattle.room_socket.specs.Serving.{Serves, Follows, InTurns, Event};
 
+use crate::admission::Admission;
 use crate::closing::close;
 use crate::end::End;
 use crate::gate::Gate;
+use crate::handshake::shake_hands;
 use crate::hearing::{Heard, Socket, hear};
 use crate::passage::Passage;
-use crate::patient::Patient;
 use crate::sending::send;
+use room_session::caller::Caller;
 use room_session::rooms::Rooms;
 use room_session::sent::Sent;
 use room_session::session::{Ended, Session};
@@ -21,7 +24,7 @@ use std::alloc::Global;
 use std::io::{Read, Write};
 use std::sync::Wait;
 use std::time::Clock;
-use tungstenite::{CloseCode, accept};
+use tungstenite::CloseCode;
 
 /// Shakes hands with a client over a stream (RFC 6455, section 4.2), and runs the session with this number to its end.
 ///
@@ -31,11 +34,12 @@ use tungstenite::{CloseCode, accept};
 /// - if the client closes the connection: the close is answered
 /// - if the client sends a message that is not a text: a close with code 1003 goes out
 /// - if an allocation of the core for a reply or for the news fails: a close with code 1011 goes out
+/// - if the client is a page of an origin that `admission` does not let in: the answer to the handshake is 403
 /// - if the handshake, the stream, the protocol or an allocation for the socket fails: nothing more goes out
 /// - after `turns` reads of a message: a close with code 1000 goes out
 ///
-/// Before the first write, at most `turns` quiet reads are repeated. The stream's reads have to end: a read that waits
-/// forever keeps the session waiting. The call leaves unchanged what no call of the rooms changes.
+/// The stream's reads have to end: a read that waits forever keeps the session waiting. The call leaves unchanged what
+/// no call of the rooms changes.
 ///
 /// The WebSocket library decides how often it reads the stream for a message. A client gets no news while it sends
 /// pieces of a frame, or pings, each sooner than a read waits.
@@ -47,21 +51,22 @@ pub fn serve<S: Read + Write + Drop, R: Rooms, G: Gate, W: Wait + Clock>(
     gate: &G,
     session: u64,
     turns: u64,
+    admission: &Admission,
 ) -> End
     // The rooms were asked what the core of one session asks for at most `turns` texts and quiet waits, and nothing
-    // else.
-    ensures serves { Serves turns (R.known rooms.old) (R.known rooms.new) }
+    // else. Each entry is by an author as whom the caller may make changes.
+    ensures serves { Serves (rule_of admission.now) turns (R.known rooms.old) (R.known rooms.new) }
     // What the core got is what the socket read, what went out is what the core returned, and the end is for its cause.
-    ensures talks { Talks S.remaining S.contents turns (R.known rooms.old) result (R.known rooms.new) }
+    ensures talks { Talks S.remaining S.contents (rule_of admission.now) turns (R.known rooms.old) result (R.known rooms.new) }
     ensures keeps { KeepsKnown (R.known rooms.old) (R.known rooms.new) }
     ensures kept { R.kept rooms.new ≡ R.kept rooms.old }
 {
-    match accept(alloc, Patient::new(stream, turns)) {
-        Ok(mut socket) => {
+    match shake_hands(rt, alloc, stream, admission) {
+        Ok((mut socket, caller)) => {
             let mut passage = Passage::new(gate, session);
-            run(rt, alloc, &mut socket, rooms, &mut passage, turns)
+            run(rt, alloc, &mut socket, rooms, &mut passage, turns, &caller)
         }
-        Err(_) => End::Fault,
+        Err(end) => end,
     }
 }
 
@@ -73,14 +78,15 @@ fn run<S: Read + Write + Drop, R: Rooms, G: Gate, W: Wait + Clock>(
     rooms: &mut R,
     passage: &mut Passage<'_, G>,
     turns: u64,
+    caller: &Caller,
 ) -> End
-    ensures serves { Serves turns (R.known rooms.old) (R.known rooms.new) }
+    ensures follows { (state : State) × InTurns turns (BeforeHello caller.now) (R.known rooms.old) state (R.known rooms.new) }
     ensures converses { (state : State) × Converses (remaining_of S.remaining) (contents_of S.contents) turns
-        socket.old BeforeHello (R.known rooms.old) result socket.new state (R.known rooms.new) }
+        socket.old (BeforeHello caller.now) (R.known rooms.old) result socket.new state (R.known rooms.new) }
     ensures keeps { KeepsKnown (R.known rooms.old) (R.known rooms.new) }
     ensures kept { R.kept rooms.new ≡ R.kept rooms.old }
 {
-    let mut core = Session::new(alloc);
+    let mut core = Session::new(alloc, *caller);
     for _ in 0..turns {
         let step = turn(rt, alloc, socket, rooms, passage, &mut core);
         if let Some(end) = step {

@@ -98,6 +98,8 @@ tree_is_shallow id answers.BadLine = omega arith
 tree_is_shallow id answers.NoHello = omega arith
 tree_is_shallow id answers.NoRoom = omega arith
 tree_is_shallow id answers.HelloTwice = omega arith
+tree_is_shallow id (answers.WrongName name) = omega arith
+tree_is_shallow id answers.NoName = omega arith
 
 -- news
 row_is_shallow : {A : Type 0} (name : Name) (element : Option (Element A)) → depth (row_tree name element) ≤ 3

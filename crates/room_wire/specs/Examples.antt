@@ -195,6 +195,8 @@ writes_replies =
     × (compact_text (tree_of 7 answers.NoHello) ≡ codes "{\"id\":7,\"no\":{\"why\":\"no_hello\"}}")
     × (compact_text (tree_of 7 answers.NoRoom) ≡ codes "{\"id\":7,\"no\":{\"why\":\"no_room\"}}")
     × (compact_text (tree_of 7 answers.HelloTwice) ≡ codes "{\"id\":7,\"no\":{\"why\":\"hello_twice\"}}")
+    × (compact_text (tree_of 1 (answers.WrongName (to_value (codes "lina")))) ≡ codes "{\"id\":1,\"no\":{\"name\":\"lina\",\"why\":\"wrong_name\"}}")
+    × (compact_text (tree_of 1 answers.NoName) ≡ codes "{\"id\":1,\"no\":{\"why\":\"no_name\"}}")
 
 -- the texts of elements
 unfoldable pub writes_elements : Type 0

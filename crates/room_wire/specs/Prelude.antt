@@ -36,7 +36,7 @@ pub use Rattle.room_wire.specs.NewsBack.{AreNews, IsMapRow, IsNewsRow, IsUnder, 
 pub use Rattle.room_wire.specs.ReadBack.{HasId, IsWhole}
 pub use Rattle.room_wire.specs.Reading.{Gives, GivesMessage, GivesUnder, id_told, or_fault, under}
 pub use Rattle.room_wire.specs.Spelling.{action_at, action_by, actions_at, actions_from, are_objects, at_action, author_at, body_at, body_by, by_id, change_by, count_of, create_at, distance_at, edit_by, el_at, element_at, els_at, entries_in, entries_of, entry_of, given_of, given_tags_at, given_tags_of, group_at, group_of, hello_at, id_at, incoming, is_edit_word, items_in, join_at, key_of, lat_at, lon_at, member_in, member_of, member_with, members_at, members_in, merge_at, message_of, move_at, name_at, name_item, names_in, node_of, nodes_at, nodes_in, ordinal, place_at, place_of, relist_relation_at, relist_way_at, retag_at, seq_at, seq_from, since_at, since_from, spells, split_at, tags_at, tags_from, tags_of, text_at, text_of, unglue_at, value_of, with_position, word_at}
-pub use Rattle.room_wire.specs.Trees.{AreToldAlike, element_tree, entry_members, fault_tree, id_tree, map_tree, member_tree, name_tree, outcome_tree, refusal_members, rows_tree, tag_members, tags_tree, tree_of, whole}
+pub use Rattle.room_wire.specs.Trees.{AreToldAlike, element_tree, entry_members, fault_tree, id_tree, map_tree, member_tree, name_tree, outcome_tree, refusal_members, rows_tree, tag_members, tags_tree, tree_of, whole, wrong_name_tree}
 pub use Rattle.room_wire.specs.Welcomes.{count_at, map_at, spells_welcome, told_at, welcome, welcome_of, welcome_tree}
 pub use Rattle.room_wire.specs.WellFormed.{AreGood, AreGoodActions, AskActions, Asks, AsksAction, Has, HasAuthor, HasDistance, HasElement, HasGivenTags, HasGroup, HasMembers, HasName, HasNameAt, HasNames, HasNodes, HasPlace, HasSeq, HasSince, HasTags, HasText, HasWord, IsBadAction, IsFirstBad, IsFirstBadAction, IsGoodAction, IsMessage, IsNumber, MessageId, Slot, actions_in, element_slots, given_tags_tree, given_tree, group_items, message_slots, slot, slots}
 pub use Rattle.room_wire.specs.Words.{Word, is_action_word, is_edit, word_text}

@@ -147,6 +147,10 @@ abbrev pub map_tree : {A : Type 0} → ℕ → List (Name × Element A) → ℕ 
 map_tree id rows front =
     ok_tree id (member (codes "map") (rows_tree rows) (member (codes "seq") (whole front) no_members))
 
+-- the refusal of a hello, because the handshake named the author with this name
+abbrev pub wrong_name_tree : ℕ → List ℕ → Data
+wrong_name_tree id name = no_tree id (member (codes "name") (string name) (bare (codes "wrong_name")))
+
 -- the tree of the reply to the message with this id
 abbrev pub tree_of : ℕ → Answer → Data
 tree_of id (answers.Reply reply) = outcome_tree id reply.now
@@ -162,6 +166,8 @@ tree_of id answers.BadLine = no_tree id (bare (codes "bad_line"))
 tree_of id answers.NoHello = no_tree id (bare (codes "no_hello"))
 tree_of id answers.NoRoom = no_tree id (bare (codes "no_room"))
 tree_of id answers.HelloTwice = no_tree id (bare (codes "hello_twice"))
+tree_of id (answers.WrongName name) = wrong_name_tree id name.now
+tree_of id answers.NoName = no_tree id (bare (codes "no_name"))
 
 -- the two answers have the same replies
 abbrev pub AreToldAlike : Answer → Answer → Type 0

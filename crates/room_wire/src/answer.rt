@@ -46,4 +46,8 @@ pub enum Answer<'a> {
     NoRoom,
     /// The session has begun already.
     HelloTwice,
+    /// The handshake named the author with this name, and the hello has another name.
+    WrongName(&'a str),
+    /// The handshake named no author.
+    NoName,
 }

@@ -94,6 +94,16 @@ fn write_reply(out: &mut Writer, id: u64, answer: &Answer<'_>) -> Result<(), Mem
         Answer::NoHello => bare(out, id, None, "no_hello"),
         Answer::NoRoom => bare(out, id, None, "no_room"),
         Answer::HelloTwice => bare(out, id, None, "hello_twice"),
+        Answer::WrongName(name) => why(
+            out,
+            id,
+            None,
+            &[
+                ("name", Shown::Text(name)),
+                ("why", Shown::Text("wrong_name")),
+            ],
+        ),
+        Answer::NoName => bare(out, id, None, "no_name"),
     }
 }
 

@@ -3,6 +3,7 @@ ghost use Rattle.room_server.specs.Prelude.{KeepsKnown, IsRunOn, known_of};
 
 use crate::sessions::line::{Client, Event, read};
 use room_server::Seated;
+use room_session::caller::Caller;
 use room_session::sent::Sent;
 use room_session::session::{Ended, Session};
 use std::alloc::Global;
@@ -45,7 +46,7 @@ fn hear<R: Print + Wait>(
 {
     match event {
         Event::Connect => {
-            *session = Session::new(alloc);
+            *session = Session::new(alloc, Caller::Anyone);
             println!(rt;)
         }
         Event::Quiet => show(rt, session.on_quiet(alloc, rt, rooms)),

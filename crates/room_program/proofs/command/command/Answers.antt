@@ -8,7 +8,7 @@ use Rattle.room_program.proofs.command.command.Goals as goal
 pub run_server-requires-clause-workers : goal.run_server-requires-clause-workers
 run_server-requires-clause-workers g c κs lives =
     let asked = rw c.in-Ok-Serve.field-0-is at c.in-Ok-Serve.ensures in
-    subst (λ (n : ℕ). n ≤ 64) (sym asked.workers_are) (workers_number (map g.T.AsStr.text c.args.words.now) asked.taken asked.subcommand).most_is
+    subst (λ (n : ℕ). n ≤ 1024) (sym asked.workers_are) (workers_number (map g.T.AsStr.text c.args.words.now) asked.taken asked.subcommand).most_is
 
 pub returns-in-Ok-Serve : goal.returns-in-Ok-Serve
 returns-in-Ok-Serve g c =

@@ -23,9 +23,10 @@ returns-clause-bad_limit c = (refl, refl, refl, refl, refl, refl, refl)
 pub returns-clause-serve_taken : goal.returns-clause-serve_taken
 unfolding serve_taken clap_on_literals
 returns-clause-serve_taken c = (
-  (refl, refl, refl, refl, refl, refl, refl, refl),
-  (refl, refl, refl, refl, refl, refl, refl, refl),
-  (refl, refl, refl, refl, refl, refl, refl, refl),
+  (refl, refl, refl, refl, refl, refl, refl, refl, refl),
+  (refl, refl, refl, refl, refl, refl, refl, refl, refl),
+  (refl, refl, refl, refl, refl, refl, refl, refl, refl),
+  (refl, refl, refl, refl, refl, refl, refl, refl, refl),
 )
 
 pub returns-clause-bad_serve : goal.returns-clause-bad_serve

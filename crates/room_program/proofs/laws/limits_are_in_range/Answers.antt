@@ -11,4 +11,4 @@ pub returns-clause-workers : goal.returns-clause-workers
 returns-clause-workers c = λ words taken serve. ((workers_number words taken serve).least_is, (workers_number words taken serve).most_is)
 
 pub returns-clause-sessions : goal.returns-clause-sessions
-returns-clause-sessions c = λ words taken serve. ((sessions_number words taken serve).least_is, (sessions_number words taken serve).most_is)
+returns-clause-sessions c = λ words taken serve. (sessions_number words taken serve).range

@@ -1,5 +1,6 @@
 -- The text that the output took, and the entry counts of the rooms.
-use Rattle.std.proofs.Common.{◌∙◌, ap₂, map, ℕ, List}
+use Rattle.std.proofs.Common.{◌∙◌, ◌^◌, ap₂, map, subst, ℕ, List}
+use Rattle.room_server.specs.Prelude.{Pools}
 use Rattle.room_program.specs.Prelude.{Bor, front_lines, listening}
 use Rattle.room_program.proofs.ServingLemmas.{fronts_of, told_no_more, told_then}
 use Rattle.room_program.proofs.serve.serve.Goals.{then-is_told, else-is_told}
@@ -30,7 +31,9 @@ returns-clause-ok g c =
         first = c.in_ok-table.seats.items;
         opens = opens;
         seats = c.in_ok-seats.seats.items;
-        pools = c.in_ok-seats.ensures.pools;
+        at = c.in_ok-seats.ensures.at;
+        met = c.in_ok-seats.ensures.met;
+        pools = subst (λ rule. Pools c.in_ok-table.table rule (10 ^ 9) c.args.asked.now.workers c.in_ok-seats.seats.items) c.in_ok-admission.ensures c.in_ok-seats.ensures.pools;
         closed = c.in_ok-fronts.ensures;
         fronts = fronts;
         as_many = are.0;

@@ -1,7 +1,8 @@
 use Rattle.std.proofs.Common.{◌++◌, ◌∷◌, [], length, refl, ◌∙◌, ap, arith, rules, subst, sym, length-append}
 use Rattle.std.proofs.lemmas.List.{length-map}
-use Rattle.room_server.specs.Prelude.{into_iter_items, AreFronts, IsFront}
+use Rattle.room_server.specs.Prelude.{into_iter_items, kin, AreFronts, IsFront}
 use Rattle.room_server.proofs.Meeting.{fronts_more}
+use Rattle.room_server.proofs.Sums.{counted}
 use Rattle.room_server.proofs.Splitting.{length_more, next_at, whole_end, whole_more}
 use Rattle.room_server.proofs.fronts.close_all.Goals as goal
 
@@ -20,13 +21,16 @@ loop-desk-preserved g c =
     let of_seats = length_more i.seats.0 c.in-Some-next.seat in
     let of_desks = length_more c.loop-desk.yielded c.in-Some.desk in
     let many = i.seats.2 in
+    let count = c.front-in-loop-desk.ensures ∙ ap length c.close.ensures.stands ∙ length-map c.close.ensures.h (λ p. p.1) in
     let front : IsFront c.in-Some.desk c.in-Some-next.seat c.front-in-loop-desk.result = record {
       h = c.close.ensures.h;
       legal = c.close.ensures.legal;
       begins = c.close.ensures.begins;
       all = c.close.ensures.all;
+      apart = c.close.ensures.apart;
+      sum = λ full. count ∙ counted (kin c.in-Some-next.seat) c.close.ensures.h c.close.ensures.apart c.close.ensures.kin (c.close.ensures.all full);
       kin = c.close.ensures.kin;
-      count = c.front-in-loop-desk.ensures ∙ ap length c.close.ensures.stands ∙ length-map c.close.ensures.h (λ p. p.1);
+      count = count;
     } in
     record {
       desks = whole_more c.args.table.desks c.loop-desk.yielded (into_iter_items c.loop-desk.desk-iterator) (into_iter_items c.next.new.self) c.in-Some.desk i.desks c.in-Some.ensures.steps.0;

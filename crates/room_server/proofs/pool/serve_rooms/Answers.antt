@@ -1,7 +1,7 @@
 use Rattle.std.proofs.Common.{◌≡◌, [], ◌∷◌, length, map, refl, vec_items, vec_len, ◌∙◌, ap, arith, rules, subst, sym}
 use Rattle.std.proofs.lemmas.List.{length-map, map-append}
 use Rattle.std.proofs.lemmas.List.Elements.{All-rest, All-same}
-use Rattle.room_server.specs.Prelude.{into_iter_items, Meet, HaveMet, IsSet}
+use Rattle.room_server.specs.Prelude.{into_iter_items, Meet, HaveMet, IsSet, rule_of}
 use Rattle.room_server.proofs.Counting.{head_of, met_more, none_met}
 use Rattle.room_server.proofs.Pooling.{meet_more, meet_none}
 use Rattle.room_server.proofs.Parts.{all_parts, met_parts, worked_parts}
@@ -52,7 +52,7 @@ loop-others-init g c =
       whole = refl;
       none_lost = λ room.
           let were = split.parts room in
-          let worked = worked_parts c.args.table.now c.args.load.turns (map vec_items (vec_items c.in_ok-seats.sets)) (map vec_items (vec_items c.run_threads-joined.result.sets)) works room in
+          let worked = worked_parts c.args.table.now (rule_of c.args.admission.now) c.args.load.turns (map vec_items (vec_items c.in_ok-seats.sets)) (map vec_items (vec_items c.run_threads-joined.result.sets)) works room in
           let one = ap (λ sets. parts_in room (map vec_items sets)) gives in
           omega (arith, were, worked, one);
       count = (let all = ap length gives in let long : vec_len c.run_threads-joined.result.sets ≡ length (vec_items c.run_threads-joined.result.sets) = search rules in let many = split.count in omega (arith, all, long, of_threads, many));

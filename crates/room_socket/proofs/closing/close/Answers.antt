@@ -1,6 +1,6 @@
 use Rattle.std.proofs.Common.{Some, refl, ap, arith}
 use Rattle.tungstenite.specs.Content.{close}
-use Rattle.room_socket.specs.Patience.{remaining_of, contents_of}
+use Rattle.room_socket.specs.Timely.{remaining_of, contents_of}
 use Rattle.room_socket.proofs.Written.{asks, read_again}
 use Rattle.room_socket.proofs.closing.close.Goals as goal
 

@@ -1,5 +1,5 @@
 use Rattle.std.proofs.Common.{◌≡◌, None, Some, false, is_err, refl, ◌∙◌, ap, sym}
-use Rattle.room_socket.specs.Patience.{remaining_of, contents_of}
+use Rattle.room_socket.specs.Timely.{remaining_of, contents_of}
 use Rattle.room_socket.proofs.Written.{sends}
 use Rattle.room_socket.proofs.sending.send.Goals as goal
 

@@ -21,7 +21,7 @@ returns-clause-tells_an_id c = (refl, refl, refl, refl, refl, refl, refl, refl, 
 
 pub returns-clause-writes_replies : goal.returns-clause-writes_replies
 unfolding writes_replies serde_json_on_literals digits
-returns-clause-writes_replies c = (refl, refl, refl, refl, refl, refl, refl, refl, refl, refl, refl, refl, refl, refl, refl, refl, refl, refl, refl, refl, refl, refl, refl, refl)
+returns-clause-writes_replies c = (refl, refl, refl, refl, refl, refl, refl, refl, refl, refl, refl, refl, refl, refl, refl, refl, refl, refl, refl, refl, refl, refl, refl, refl, refl, refl)
 
 pub returns-clause-writes_elements : goal.returns-clause-writes_elements
 unfolding writes_elements serde_json_on_literals digits

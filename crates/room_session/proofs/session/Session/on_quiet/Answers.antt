@@ -8,7 +8,7 @@ pub returns-clause-makes : goal.returns-clause-makes
 returns-clause-makes g c = elim c.match-self.branch [
   | in-BeforeHello w ↦ makes_none_to (g.R.Rooms.known c.args.rooms.now) _ _ (ap (λ r. g.R.Rooms.known r) w.rooms-is) (nothing_is_made (g.R.Rooms.known c.args.rooms.now))
   | in-Open w ↦ makes_none_to (g.R.Rooms.known c.args.rooms.now) _ _ (ap (λ r. g.R.Rooms.known r) w.rooms-is)
-      (wait_makes_none (g.R.Rooms.known c.args.rooms.now) _ (λ n. only n.texts) (λ n. n.state) _ w.in-Open.author _ _ w.news_alone-next.ensures.ok w.news_alone-next.ensures.err)
+      (wait_makes_none (g.R.Rooms.known c.args.rooms.now) _ (λ n. only n.texts) (λ n. n.state) _ w.in-Open.speaker _ _ w.news_alone-next.ensures.ok w.news_alone-next.ensures.err)
 ]
 
 pub returns-clause-keeps : goal.returns-clause-keeps

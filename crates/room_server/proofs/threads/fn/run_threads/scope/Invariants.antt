@@ -6,7 +6,7 @@ use Rattle.room_server.proofs.threads.fn.run_threads.scope.Given as goal
 abbrev pub invariant-loop-seats : goal.invariant-loop-seats
 invariant-loop-seats g l = record {
   rest : All (λ set. IsFresh l.table (vec_items set)) (into_iter_items l.seats-iterator);
-  threads : All (λ thread. (thread.promise.table.now ≡ l.table) × (thread.promise.turns ≡ l.load-turns) × IsFresh l.table (vec_items thread.promise.lent.value)) (vec_items l.threads);
+  threads : All (λ thread. (thread.promise.table.now ≡ l.table) × (thread.promise.turns ≡ l.load-turns) × (thread.promise.admission.now ≡ l.admission) × IsFresh l.table (vec_items thread.promise.lent.value)) (vec_items l.threads);
   lent : map (λ thread. vec_items thread.promise.lent.value) (vec_items l.threads) ++ map vec_items (into_iter_items l.seats-iterator) ≡ map vec_items (into_iter_items l.initial.seats-iterator);
   count : vec_len l.threads + length (into_iter_items l.seats-iterator) ≡ length (into_iter_items l.initial.seats-iterator);
   no_fault : l.fault ≡ None;
