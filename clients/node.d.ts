@@ -1,7 +1,13 @@
 // The part of Node, and of the package ws, that the library and the command-line clients use.
 
 declare const module: { exports: unknown };
-declare const process: { argv: string[]; exitCode?: number; exit(status: number): never; stdin: unknown };
+declare const process: {
+  argv: string[];
+  env: Record<string, string | undefined>;
+  exitCode?: number;
+  exit(status: number): never;
+  stdin: unknown;
+};
 declare const require: { (name: string): any; main: unknown };
 
 declare module "node:readline" {
@@ -16,7 +22,11 @@ declare module "node:readline" {
 
 declare module "ws" {
   class Socket extends WebSocket {
-    constructor(url: string, protocols: string[], options: { maxPayload: number; perMessageDeflate: boolean });
+    constructor(
+      url: string,
+      protocols: string[],
+      options: { auth?: string; maxPayload: number; perMessageDeflate: boolean },
+    );
   }
 
   export = Socket;

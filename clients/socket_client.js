@@ -13,6 +13,9 @@ It prints the answer to each message. With --follow it stays, and prints each ch
 element before and after. After a gap it prints one line with "reset", and all elements that differ. If the room refuses
 a message, it prints the reason on standard error, and its status is 1.
 
+For an address with a name, such as wss://lina@maps.example.org/hamlet, the password is MAPROOM_PASSWORD of the
+environment.
+
 If Node has no WebSocket of its own, the client needs the package ws (Debian: node-ws). A Node that is not Debian's
 finds Debian's package with NODE_PATH=/usr/share/nodejs.
 
@@ -22,6 +25,22 @@ The library clients/js/maproom.js does the work, and programs can use it, too. d
   -h, --help  print this help
   --follow    stay, and print each change as a line of JSON`;
 
+/**
+ * An address with the password of the environment, if it has a name and no password. Others can read the arguments.
+ * @param {string} text
+ */
+function withPassword(text) {
+  const password = process.env.MAPROOM_PASSWORD ?? "";
+  try {
+    const url = new URL(text);
+    if (!url.username || url.password || !password) return text;
+    url.password = password;
+    return url.href;
+  } catch {
+    return text; // which no connection can be made to
+  }
+}
+
 /** @param {unknown} error */
 const isRefusal = (error) => [NotSent, Refused, Unknown].some((kind) => error instanceof kind);
 
@@ -30,7 +49,7 @@ async function main() {
   /** @type {import("./js/maproom.js").Room | null} */
   let joined = null;
   try {
-    const session = await connect(url, { room, name });
+    const session = await connect(withPassword(url), { room, name });
     joined = session;
     const ended = new Promise((_, fail) => session.addEventListener("error", ({ error }) => fail(error)));
     ended.catch(() => {}); // without --follow, a message that waits reports it
@@ -51,8 +70,9 @@ async function main() {
     if (isFollowing) await ended;
   } catch (error) {
     process.exitCode = 1;
+    const place = url.replace(/^(\w+:\/\/)[^/?#]*@/, "$1"); // without a password
     if (error instanceof Refused) printRefusal(error);
-    else console.error(`socket_client: ${/** @type {Error} */ (error).message}\nsocket_client: no session at ${url}`);
+    else console.error(`socket_client: ${/** @type {Error} */ (error).message}\nsocket_client: no session at ${place}`);
   } finally {
     joined?.close();
   }

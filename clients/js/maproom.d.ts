@@ -191,6 +191,12 @@ export class Changed extends Refused {
   readonly entry: number;
 }
 
+export class WrongName extends Refused {
+  readonly author: string;
+}
+
+export class NoName extends Refused {}
+
 export const actions: {
   createNode(el: string, lat: Degrees, lon: Degrees, tags?: Tags): Message;
   createWay(el: string, nodes: Iterable<number | string>, tags?: Tags): Message;

@@ -429,6 +429,8 @@
     hello_twice: "the session has begun already",
     no_hello: "the session has not begun",
     no_room: "the server has no such room",
+    wrong_name: "you are logged in as {name}, and have to use that name",
+    no_name: "the server was not told who you are: log in, and ask the operator whether your login has a name",
     repeat: "entry {seq} spent the id: another client has the same name",
     full: "the journal of the room is full",
     nothing_to_undo: "there is nothing to undo",
@@ -581,6 +583,19 @@
     }
   }
 
+  /** The session is another author's: that of `author`, under whose name a hello is accepted. */
+  class WrongName extends Refused {
+    /** @param {Refusal} no */
+    constructor(no) {
+      super(no);
+      /** @type {string} */
+      this.author = no.name;
+    }
+  }
+
+  /** The server was not told who the client is, so the client may not change anything. */
+  class NoName extends Refused {}
+
   /**
    * The error for a refusal, or for a reason of the core: `unknown`, `not_sent`, `closed`.
    * @param {Refusal} no
@@ -590,6 +605,8 @@
     if (no.why === "unknown") return new Unknown(no.restarted);
     if (no.why === "not_sent") return new NotSent(no.restarted);
     if (no.why === "closed") return new Closed(no.sent);
+    if (no.why === "wrong_name") return new WrongName(no);
+    if (no.why === "no_name") return new NoName(no);
     return no.why === "changed" ? new Changed(no, author) : new Refused(no, author);
   }
 
@@ -718,6 +735,12 @@
   }
 
   /**
+   * An address without a name and a password in it.
+   * @param {string} url
+   */
+  const withoutLogin = (url) => String(url).replace(/^(\w+:\/\/)[^/?#]*@/, "$1");
+
+  /**
    * A WebSocket of the platform, or else of the package ws, which would refuse large maps by itself.
    * @param {string} url
    * @returns {Socket}
@@ -731,10 +754,16 @@
       const places = "Debian: node-ws, and for another Node also NODE_PATH=/usr/share/nodejs";
       throw new Error(`it needs the package ws (${places})`);
     }
-    return new Package(url, [], { maxPayload: 0, perMessageDeflate: false });
+    const { username, password } = new URL(url);
+    // The package would send a name and a password as they are written in an address.
+    const auth = username ? { auth: `${decodeURIComponent(username)}:${decodeURIComponent(password)}` } : {};
+    return new Package(withoutLogin(url), [], { ...auth, maxPayload: 0, perMessageDeflate: false });
   }
 
   class Room extends EventTarget {
+    /** @type {string} */
+    #address; // with the login
+
     /** @type {Core} */
     #core;
 
@@ -783,7 +812,8 @@
      */
     constructor(url, options) {
       super();
-      this.url = url;
+      this.url = withoutLogin(url);
+      this.#address = url;
       this.#options = options;
       // Ids are spent for the life of the room, so each run of a program begins above those of earlier runs.
       const firstId = Date.now() * 1000 + Math.floor(Math.random() * 1000);
@@ -803,7 +833,7 @@
         const made = new Room(url, { room, name, openTimeout, timeout, heartbeat });
         made.#opened = { done, fail };
         if (openTimeout !== null) {
-          const words = `${url} did not answer within ${openTimeout / 1000} seconds`;
+          const words = `${made.url} did not answer within ${openTimeout / 1000} seconds`;
           made.#timers.open = setTimeout(() => made.#end(new ConnectionFailed(words)), openTimeout);
         }
         const abort = () => made.#end(made.#isThere ? null : signal?.reason);
@@ -902,7 +932,7 @@
       /** @type {Socket} */
       let socket;
       try {
-        socket = socketTo(this.url);
+        socket = socketTo(this.#address);
       } catch (thrown) {
         const error = /** @type {Error} */ (thrown);
         this.#end(new ConnectionFailed(`no connection to ${this.url}: ${error.message}`, { cause: error }));
@@ -1292,14 +1322,14 @@
   /** @type {Library} */
   const library = {
     connect, Room, Core, OutOfStep, HelloRefused, MaproomError, ConnectionFailed, Closed, Unknown, NotSent, NoAnswer,
-    Refused, Changed, actions, errorOf, shortWords,
+    Refused, Changed, WrongName, NoName, actions, errorOf, shortWords,
   };
 
   if (typeof module === "object" && module.exports) {
     // Node finds the names for an import in this literal.
     module.exports = {
       connect, Room, Core, OutOfStep, HelloRefused, MaproomError, ConnectionFailed, Closed, Unknown, NotSent, NoAnswer,
-      Refused, Changed, actions, errorOf, shortWords,
+      Refused, Changed, WrongName, NoName, actions, errorOf, shortWords,
     };
   } else {
     Object.assign(globalThis, { maproom: library });

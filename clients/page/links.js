@@ -10,6 +10,26 @@ const given = new URLSearchParams(location.search);
 const isThisComputer = (hostname) => /^(localhost|127(\.\d+){3}|\[::1\])$/.test(hostname);
 
 /**
+ * An address without a name and a password in it, which go into no link, and are not kept.
+ * @param {string} address
+ */
+const withoutLogin = (address) => address.replace(/^(\w+:\/\/)[^/?#]*@/, "$1");
+
+/**
+ * Whether the page belongs to the server of an address: both have the same host, or are on this computer.
+ * @param {string} address
+ */
+function isOwnServer(address) {
+  try {
+    const { hostname } = new URL(address);
+    const isHere = location.protocol === "file:" || isThisComputer(location.hostname);
+    return isHere ? isThisComputer(hostname) : hostname === location.hostname;
+  } catch {
+    return false;
+  }
+}
+
+/**
  * Why a link to this page and to the address of a server works for nobody else: perhaps for several reasons or none.
  * @param {string} address
  */

@@ -24,12 +24,24 @@ function fillIn() {
   $("name").value = given.get("name") ?? last.name ?? "";
   $("room").value = given.get("room") ?? (given.has("address") ? "" : last.room ?? "");
   const lastUrl = given.has("room") ? "" : last.url;
-  $("address").value = given.get("address") ?? (lastUrl || usualAddress($("room").value));
+  $("address").value = withoutLogin(given.get("address") ?? (lastUrl || usualAddress($("room").value)));
   let isUsual = !given.has("address") && !lastUrl;
   $("address").oninput = () => (isUsual = false);
   $("room").oninput = () => {
     if (isUsual) $("address").value = usualAddress($("room").value);
   };
+}
+
+/** Joins the room of a link. Only the mapper can choose a server that the page does not belong to. */
+function followLink() {
+  const address = $("address").value;
+  if (isOwnServer(address)) {
+    $("connect").click();
+    return;
+  }
+  const host = address.replace(/^\w*:?\/\//, "").split("/")[0];
+  page.say(`This link joins a room at ${host}, which is not the site of this page. Press Connect if you trust it.`);
+  $("connect").focus();
 }
 
 const page = new Page();
@@ -39,7 +51,7 @@ loadLeaflet().then(() => {
   page.background = new Background(page);
   listen(page);
   page.panels.showAll();
-  if (given.has("connect")) $("connect").click();
+  if (given.has("connect")) followLink();
   else if (!$("room").value) $("room").focus();
   else $("name").focus();
 }, () => {

@@ -112,18 +112,18 @@ class Page {
   // ---- The session
 
   /**
-   * @param {string} url
+   * @param {string} address
    * @param {string} roomName
    * @param {string} name
    */
-  connect(url, roomName, name) {
+  connect(address, roomName, name) {
+    const url = withoutLogin(address);
     const session = new Session(url, roomName, name);
     if (this.isElsewhere(url, roomName)) this.forgetRoom();
     this.session = session;
     this.follow(session);
     session.choose = (disputes) => this.questions.ask(disputes);
     session.open();
-    memory.set("maproom last", { url, room: roomName, name });
     return session;
   }
 
@@ -144,7 +144,16 @@ class Page {
       setTimeout(() => this.warnings.say()); // after what is said of the change
     });
     on("map", (about) => this.takeMap(about));
-    on("change", ({ entry, rows }) => this.takeChange(entry, rows));
+    on("renamed", () => {
+      $("name").value = session.name;
+      this.say(`You are logged in as ${session.name}, and take part under that name.`);
+    });
+    on("change", ({ entry, rows }) => {
+      this.takeChange(entry, rows);
+      // A link may have chosen the address, so it is remembered only when the mapper has saved something there.
+      const { url, roomName: room, name } = session;
+      if (entry.by === name) memory.set("maproom last", { url, room, name });
+    });
     on("history", () => this.showHistory());
     on("conflict", () => this.showConflict());
   }
@@ -1006,7 +1015,7 @@ class Page {
   link() {
     const { url: address, roomName: room } = this.joinedSession;
     const fields = { address, room, ...(this.tiles && { tiles: this.tiles.url, credit: this.tiles.credit }) };
-    return `${location.href.split(/[?#]/)[0]}?${new URLSearchParams(fields)}`;
+    return `${withoutLogin(location.href.split(/[?#]/)[0])}?${new URLSearchParams(fields)}`;
   }
 
   async share() {

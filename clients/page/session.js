@@ -17,10 +17,10 @@
  * @typedef {"connecting" | "waiting" | "lost" | "open" | "closed"} SessionState
  *
  * What a session reports: that its state or the number of unsaved changes is another, that the whole map came (for the
- * first time or, perhaps from another run of the server, again), an entry, and that the lists of undos or the conflict
- * are others.
+ * first time or, perhaps from another run of the server, again), an entry, that the lists of undos or the conflict are
+ * others, and that the mapper has another name than the wanted one.
  * @typedef {{
- *   state: void, unsaved: void, map: { isFirst: boolean, restarted: boolean | null },
+ *   renamed: void, state: void, unsaved: void, map: { isFirst: boolean, restarted: boolean | null },
  *   change: { entry: Entry, rows: ChangedRow[] }, history: void, conflict: void,
  * }} SessionEvents
  */
@@ -55,6 +55,7 @@ const STATUSES = {
   403: "refuses this page. Open the page that it hands out itself.",
   404: "has no room at this path. Look at what stands behind the host in the address.",
   429: "has as many connections from your network as it allows. Ask whoever runs it to allow more.",
+  426: "lets you in, but cannot reach its maproom server. It may be starting.",
   502: "cannot reach its maproom server. It may be starting.",
   503: "cannot reach its maproom server. It may be starting.",
   504: "cannot reach its maproom server. It may be starting.",
@@ -178,7 +179,11 @@ class Session extends EventTarget {
     /** @type {number | undefined} */
     this.storeTimer = undefined;
     this.leaving = new AbortController();
-    this.key = `maproom ${url} ${roomName} ${name}`;
+  }
+
+  /** Under what the browser keeps something of this session. */
+  get key() {
+    return `maproom ${this.url} ${this.roomName} ${this.name}`;
   }
 
   /**
@@ -241,6 +246,7 @@ class Session extends EventTarget {
       } catch (thrown) {
         const error = /** @type {Failure} */ (thrown);
         if (this.isOver) return false;
+        if (this.takeName(error)) continue;
         if (error.why !== "connection_failed") return this.end(sentenceOf(error));
         clearTimeout(late);
         const isSilent = error.cause?.message === "the server is silent"; // on an open connection
@@ -256,6 +262,17 @@ class Session extends EventTarget {
       }
     }
     return false;
+  }
+
+  /**
+   * Takes the name under which the server knows the mapper, if it refused another one. Returns whether it did.
+   * @param {Failure} error
+   */
+  takeName({ why, no }) {
+    if (why !== "wrong_name" || !no?.name || no.name === this.name) return false;
+    this.name = no.name;
+    this.report("renamed", undefined);
+    return true;
   }
 
   async begin() {
@@ -767,7 +784,8 @@ class Session extends EventTarget {
       if (isRestored) this.restore(undos);
       this.putLists(this.inGestures(undos), this.inGestures(redo));
     } catch (error) {
-      if (/** @type {Failure} */ (error).why !== "closed") console.error(error);
+      const { why = "" } = /** @type {Failure} */ (error);
+      if (why !== "closed" && why !== "no_name") console.error(error); // who only watches has nothing to undo
     }
   }
 

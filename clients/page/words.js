@@ -3,8 +3,8 @@
 
 /**
  * A refusal of the room's, or another reason why something was not done.
- * @typedef {{ why: string, el?: string, by?: string, at?: string, key?: string, field?: string, seq?: number,
- *   with?: number, action?: number, restarted?: boolean, isDropped?: boolean, isSent?: boolean }} Refusal
+ * @typedef {{ why: string, name?: string, el?: string, by?: string, at?: string, key?: string, field?: string,
+ *   seq?: number, with?: number, action?: number, restarted?: boolean, isDropped?: boolean, isSent?: boolean }} Refusal
  *
  * An error of a change. `no` has the room's refusal, and `text` is what the change did.
  * @typedef {Error & Partial<Refusal> & { no?: Refusal, text?: string, cause?: Error }} Failure
@@ -155,6 +155,9 @@ const REFUSALS = {
   turned: ({ el }) => `${el} was turned meanwhile, so it runs as you wanted.`,
   memory: () => "The server is out of memory. Try again later.",
   no_room: () => "The server has no room of this name.",
+  wrong_name: (no) => `You are logged in as ${no.name}, and have to use that name.`,
+  no_name: () => "The server was not told who you are, so you cannot change the map. Load this page again, and log "
+    + "in. If you are logged in, ask whoever runs the server to give your login a name.",
   bad_field: (no) => `The server does not accept this: “${no.field}” is missing, or is not of its form.`,
   unknown_do: () => "This server does not know that action.",
   unknown: () => "The connection ended before the answer came. Look at the map: the change may be there or not.",

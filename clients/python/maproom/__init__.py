@@ -24,6 +24,7 @@ from .errors import (
     InUse,
     NoAnswer,
     NoHello,
+    NoName,
     NoRoom,
     NoSuch,
     NotEndToEnd,
@@ -47,6 +48,7 @@ from .errors import (
     Unknown,
     UnknownDo,
     WrongKind,
+    WrongName,
 )
 from .room import Changes, Redone, Room, Undone, Undos, connect
 
@@ -72,6 +74,7 @@ __all__ = [
     "InUse",
     "NoAnswer",
     "NoHello",
+    "NoName",
     "NoRoom",
     "NoSuch",
     "NotEndToEnd",
@@ -101,6 +104,7 @@ __all__ = [
     "Unknown",
     "UnknownDo",
     "WrongKind",
+    "WrongName",
     "actions",
     "connect",
     "event_as_json",

@@ -129,6 +129,21 @@ class NoRoom(Refused):
     words = "the server has no such room"
 
 
+class WrongName(Refused):
+    """The session is another author's: `name` says whose, and a hello under that name is accepted."""
+
+    words = "you are logged in as {name}, and have to use that name"
+
+    @property
+    def name(self) -> str:
+        """The name under which the server lets the client in."""
+        return str(self.no["name"])
+
+
+class NoName(Refused):
+    words = "the server was not told who you are: log in, and ask the operator whether your login has a name"
+
+
 class Repeat(Refused):
     words = "entry {seq} spent the id: another client has the same name"
 
@@ -248,6 +263,8 @@ REASONS: Dict[str, Type[Refused]] = {
     "hello_twice": HelloTwice,
     "no_hello": NoHello,
     "no_room": NoRoom,
+    "wrong_name": WrongName,
+    "no_name": NoName,
     "repeat": Repeat,
     "full": Full,
     "nothing_to_undo": NothingToUndo,

@@ -12,6 +12,7 @@ from typing import TYPE_CHECKING, Tuple, Type, Union
 
 from . import actions
 from .actions import Degrees, Members, Tags
+from .addresses import address_of
 from .core import Answer, Core, Element, Event, HelloRefused, Message, OutOfStep, folded
 from .errors import Closed, Conflict, ConnectionFailed, Error, NoAnswer, NotStanding, Present, error_of
 
@@ -57,14 +58,26 @@ def connect(
     open_timeout: Optional[float] = 10,
     timeout: Optional[float] = 60,
     heartbeat: float = 15,
+    name_header: Optional[str] = None,
 ) -> Room:
     """A room, for `async with`. `url` is the server's address, such as "ws://127.0.0.1:9001".
 
     The block begins when the welcome has come, within `open_timeout` seconds. Each message then waits for its answer
     for `timeout` seconds at most. None means no limit. A connection on which nothing came for `heartbeat` seconds is
     given up, and made anew.
+
+    A program that reaches the server without a proxy gives its name by `name_header`, if the server has this option.
+    A proxy sets the header itself, and refuses a handshake that has it.
     """
-    return Room(url, room, name, open_timeout=open_timeout, timeout=timeout, heartbeat=heartbeat)
+    return Room(
+        url,
+        room,
+        name,
+        open_timeout=open_timeout,
+        timeout=timeout,
+        heartbeat=heartbeat,
+        name_header=name_header,
+    )
 
 
 class Room:
@@ -81,8 +94,10 @@ class Room:
         open_timeout: Optional[float] = 10,
         timeout: Optional[float] = 60,
         heartbeat: float = 15,
+        name_header: Optional[str] = None,
     ) -> None:
-        self.url, self.room, self.name = url, room, name
+        self.url, self.room, self.name = address_of(url).url, room, name
+        self._address, self._headers = url, {name_header: name} if name_header else None
         self.open_timeout, self.timeout, self.heartbeat = open_timeout, timeout, heartbeat
         self.state = "closed"
         # Ids are spent for the life of the room, so each run of a program begins above those of earlier runs.
@@ -181,7 +196,7 @@ class Room:
         sockets = socket_module()
         try:
             limit = None if not self._is_there.done() else self.open_timeout or 60
-            socket = await asyncio.wait_for(sockets.Socket.open(self.url), limit)
+            socket = await asyncio.wait_for(sockets.Socket.open(self._address, self._headers), limit)
         except (ValueError, *sockets.FAULTS) as fault:
             if not self._is_there.done():
                 raise ConnectionFailed(f"no connection to {self.url}: {str(fault) or type(fault).__name__}") from fault

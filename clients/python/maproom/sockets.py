@@ -4,9 +4,11 @@ from __future__ import annotations
 import asyncio
 import socket
 import sys
-from typing import AsyncIterator, Optional
+from typing import AsyncIterator, Mapping, Optional
 
 import aiohttp
+
+from .addresses import address_of
 
 # What can go wrong with a connection.
 FAULTS = (OSError, asyncio.TimeoutError, aiohttp.ClientError)
@@ -22,11 +24,15 @@ class Socket:
         self.session, self.stream = session, stream
 
     @classmethod
-    async def open(cls, url: str) -> Socket:
-        """Connects. It raises one of FAULTS, or ValueError for a bad address."""
+    async def open(cls, url: str, headers: Optional[Mapping[str, str]] = None) -> Socket:
+        """Connects, with these headers in the handshake. It raises one of FAULTS, or ValueError for a bad address."""
+        plain, login = address_of(url)
+        auth = aiohttp.BasicAuth(*login, encoding="utf-8") if login else None
         session = aiohttp.ClientSession(timeout=aiohttp.ClientTimeout(total=None), trust_env=True)
         try:
-            return cls(session, await session.ws_connect(url, max_msg_size=0, autoclose=True))
+            return cls(
+                session, await session.ws_connect(plain, auth=auth, headers=headers, max_msg_size=0, autoclose=True)
+            )
         except BaseException:
             await session.close()
             raise

@@ -18,9 +18,11 @@ import asyncio
 import json
 import sys
 
+from ..addresses import address_of
 from ..core import Message, compact, event_as_json
 from ..errors import Error, NotSent, Refused, Unknown, short_words
 from ..room import Changes, connect
+from .login import add_login, take_password
 
 
 def message_of(text: str) -> Message:
@@ -48,7 +50,7 @@ async def follow(changes: Changes) -> None:
 async def talk(options: argparse.Namespace) -> int:
     """Does what the command line says. Returns the status."""
     status = 0
-    async with connect(options.url, room=options.room, name=options.name) as room:
+    async with connect(options.url, room=options.room, name=options.name, name_header=options.name_header) as room:
         following = asyncio.create_task(follow(room.changes())) if options.follow else None
         for message in options.message:
             try:
@@ -70,6 +72,7 @@ def arguments() -> argparse.Namespace:
     parser = argparse.ArgumentParser(usage=usage, description=__doc__, formatter_class=layout)
     parser.add_argument("--map", action="store_true", help="print the map at the end, as map_to_osm and --base read it")
     parser.add_argument("--follow", action="store_true", help="stay, and print each change as a line of JSON")
+    add_login(parser)
     parser.add_argument("url", metavar="URL", help="the server's address, such as ws://127.0.0.1:9001")
     parser.add_argument("room", metavar="ROOM", help="the room to join")
     parser.add_argument("name", metavar="NAME", help="the author of the messages")
@@ -81,11 +84,15 @@ def main() -> int:
     """Does what the command line says. Returns the status."""
     options = arguments()
     try:
+        take_password(options)
         return asyncio.run(talk(options))
     except KeyboardInterrupt:
         return 130
     except Refused as refusal:
         print_refusal(refusal)
     except (Error, ModuleNotFoundError) as fault:
-        print(f"socket_client: {fault}\nsocket_client: no session at {options.url}", file=sys.stderr)
+        url = address_of(options.url).url
+        print(f"socket_client: {fault}\nsocket_client: no session at {url}", file=sys.stderr)
+    except OSError as fault:
+        print(f"socket_client: {fault.filename}: {fault.strerror}", file=sys.stderr)
     return 1

@@ -36,6 +36,7 @@ from ..keeper.files import replace_durably
 from ..keeper.folder import note_restored, wait_for_keeper
 from ..keeper.snapshots import base_line
 from ..keeper.who import iso, time_of
+from .login import add_login, take_password
 
 FAILED, NOTHING_SAVED = 1, 4
 
@@ -84,6 +85,7 @@ def answer(options: argparse.Namespace) -> int:
 
 async def follow(options: argparse.Namespace) -> int:
     """Follows the room until a signal comes, or something else ends it."""
+    take_password(options)
     folder = keeper.Folder(options.folder)
     try:
         plan = keeper.Plan(
@@ -94,6 +96,7 @@ async def follow(options: argparse.Namespace) -> int:
             options.snapshots,
             options.patience,
             options.print_saved,
+            options.name_header,
         )
         following = keeper.Keeper(plan, folder, note, report)
         for which in (signal.SIGTERM, signal.SIGINT):
@@ -123,6 +126,7 @@ def arguments() -> argparse.Namespace:
     parser.add_argument("url", metavar="URL", nargs="?", help="the server's address, such as ws://127.0.0.1:9001")
     parser.add_argument("room", metavar="ROOM", nargs="?", help="the room to follow")
     parser.add_argument("--name", default="keeper", help="the name under which it follows; default: keeper")
+    add_login(parser)
     parser.add_argument(
         "--every",
         type=float,

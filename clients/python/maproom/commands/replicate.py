@@ -32,6 +32,7 @@ import sys
 from ..keeper.folder import Locked
 from ..missing import MissingPackage
 from ..replication import BadLedger, OtherRoom, Plan, Replicator
+from .login import add_login, take_password
 
 FAILED = 1
 
@@ -56,6 +57,7 @@ def arguments() -> argparse.Namespace:
     parser.add_argument("url", metavar="URL", help="the server's address, such as ws://127.0.0.1:9001")
     parser.add_argument("room", metavar="ROOM", help="the room to follow")
     parser.add_argument("--name", default="replicator", help="the name under which it follows; default: replicator")
+    add_login(parser)
     parser.add_argument(
         "--every",
         type=seconds,
@@ -79,6 +81,7 @@ def arguments() -> argparse.Namespace:
 
 async def follow(options: argparse.Namespace) -> int:
     """Follows the room until a signal comes, or something else ends it."""
+    take_password(options)
     plan = Plan(
         options.folder,
         options.url,
@@ -88,6 +91,7 @@ async def follow(options: argparse.Namespace) -> int:
         options.public_url,
         options.many_gone,
         options.patience,
+        options.name_header,
     )
     replicator = Replicator(plan, note)
     try:

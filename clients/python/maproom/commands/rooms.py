@@ -35,7 +35,7 @@ from typing import Dict, Iterable, Iterator, List, Mapping, NamedTuple, Optional
 STATE, SETTINGS = "/var/lib/maproom", "/etc/maproom"
 
 # The workers of a room, and the host name of nginx, if no option gives them.
-WORKERS, SITE = 16, "localhost"
+WORKERS, SITE = 32, "localhost"
 
 # How many seconds after the last change the keeper has its news, which the server sends within 50 ms.
 NEWS = 1
@@ -223,7 +223,7 @@ def environment(room: str, place: Place, options: argparse.Namespace, old: str =
     site = options.site or SITE
     values = {"ADDR": place.address(place.port), "WORKERS": str(options.workers or WORKERS)}
     if place.api:
-        api_options = f"--host {site} --public-url https://{site}/{room}"
+        api_options = f"--trust-header --host {site} --public-url https://{site}/{room}"
         values |= {"API": place.address(place.api), "API_OPTIONS": api_options}
     stays = {
         "ADDR": False,

@@ -10,6 +10,7 @@ from dataclasses import dataclass
 from typing import Any, Dict, List, Optional, Set
 
 from .. import ConnectionFailed, Error, connect
+from ..addresses import address_of
 from ..core import Change, Element, Event, Reset, differences
 from ..room import Changes, Room
 from .folder import RECENT, Folder, NothingSaved, Saved, Note, is_restored, load
@@ -47,7 +48,8 @@ class NotSaved(Exception):
 @dataclass(frozen=True)
 class Plan:
     """What a keeper does: which room it follows under which name, how many seconds pass between snapshots, how many
-    snapshots it keeps, and for how many seconds it tries to write. `print_saved` reports each save."""
+    snapshots it keeps, and for how many seconds it tries to write. `print_saved` reports each save, and `name_header`
+    is the header in which the server wants the name."""
 
     url: str
     room: str
@@ -56,6 +58,7 @@ class Plan:
     snapshots: int = 12
     patience: float = 60
     print_saved: bool = False
+    name_header: Optional[str] = None
 
 
 class Keeper:
@@ -101,9 +104,9 @@ class Keeper:
     async def _connected(self) -> Optional[Room]:
         """The room, as soon as there is a session. None if the keeper is to end first."""
         is_noted = False
-        self._waiting.goes_on(f"connecting to {self.plan.url}")
+        self._waiting.goes_on(f"connecting to {address_of(self.plan.url).url}")
         while not self._ends.is_set():
-            room = connect(self.plan.url, room=self.plan.room, name=self.plan.name)
+            room = connect(self.plan.url, room=self.plan.room, name=self.plan.name, name_header=self.plan.name_header)
             opening = asyncio.ensure_future(room.open())
             await self._until_end(opening)
             if not opening.done():
@@ -243,7 +246,7 @@ class Keeper:
         while True:
             await asyncio.sleep(LOOK)
             if room.state != "open":
-                self._waiting.goes_on(f"the connection to {self.plan.url} broke")
+                self._waiting.goes_on(f"the connection to {room.url} broke")
             elif self._waiting.is_on:
                 self._waiting.ends()
             is_idle = room.state != "open" and not self._pending and not self._is_busy

@@ -20,8 +20,9 @@ SHUTDOWN_SECONDS = 10.0
 
 @dataclass(frozen=True)
 class Options:
-    """How a bridge is run. Without `name` each request names its author by HTTP Basic. Other hosts than those of this
-    machine's loopback are listened on, and answered to, only if they are given. `kept` is the folder of the keeper."""
+    """How a bridge is run. Without `name` each request names its author by HTTP Basic or, if it is given, by the header
+    `author_header`, which a proxy sets. Other hosts than those of this machine's loopback are listened on, and answered
+    to, only if they are given. `kept` is the folder of the keeper."""
 
     name: str | None = None
     host: str = "127.0.0.1"
@@ -31,6 +32,7 @@ class Options:
     public_url: str = ""
     seconds: float = 60
     kept: Path | None = None
+    author_header: str | None = None
 
 
 class NotLoopback(Exception):
@@ -65,7 +67,9 @@ async def listening(calls: Calls, options: Options, note: Callable[[str], None])
     listener = socket.create_server((options.host, options.port), family=family)
     try:
         port: int = listener.getsockname()[1]
-        settings = Settings(loopback_hosts(port) | options.hosts, options.name, options.public_url)
+        settings = Settings(
+            loopback_hosts(port) | options.hosts, options.name, options.public_url, author_header=options.author_header
+        )
         running = runner(calls, settings, note)
         await running.setup()
         try:

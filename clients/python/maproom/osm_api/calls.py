@@ -53,6 +53,7 @@ FEW_NODES, MOST_LOOKS = 2_000, 3
 
 UNREACHABLE = "The room cannot be reached at the moment. Nothing was done."
 NO_NAME = "Give your name by HTTP Basic: 1 to 32 characters of a-z, 0-9 and _"
+NO_LOGIN_NAME = "Your login has no name in the room. Ask the operator to give it one."
 BAD_BOX = "The parameter bbox is required, and must be of the form min_lon,min_lat,max_lon,max_lat."
 FALSE_BOX = (
     "The latitudes must be between -90 and 90, longitudes between -180 and 180 and the minima must be less "
@@ -73,7 +74,8 @@ async def no_pieces() -> AsyncIterator[bytes]:
 @dataclass(frozen=True)
 class Request:
     """A request. `body` yields its pieces, and may raise ApiError, and `length` is how many bytes it announces. `author`
-    is None if it names nobody, and `base` the URL of the root as the client knows it."""
+    is None if it names nobody, and `base` the URL of the root as the client knows it. `is_named_by_proxy` says whether a
+    proxy names the author."""
 
     method: str
     path: str
@@ -84,10 +86,13 @@ class Request:
     wants_page: bool = False
     base: str = ""
     length: int = 0
+    is_named_by_proxy: bool = False
 
     @property
     def named_author(self) -> str:
-        """The author. Raises ApiError 401 if the request names nobody."""
+        """The author. Raises ApiError 401 if the request names nobody, or 403 if another login would not help."""
+        if self.author is None and self.is_named_by_proxy:
+            raise ApiError(403, NO_LOGIN_NAME)
         if self.author is None:
             raise ApiError(401, NO_NAME)
         return self.author

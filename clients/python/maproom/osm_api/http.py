@@ -7,12 +7,12 @@ import re
 import time
 import traceback
 import zlib
-from collections.abc import AsyncIterator, Callable
+from collections.abc import AsyncIterator, Callable, Sequence
 from dataclasses import dataclass
 
 from aiohttp import web
 
-from .calls import HEALTH, HTML, JSON, METRICS, NO_NAME, TEXT, XML, Calls, Request, Response
+from .calls import HEALTH, HTML, JSON, METRICS, NO_LOGIN_NAME, NO_NAME, TEXT, XML, Calls, Request, Response
 from .errors import ApiError, bad_request
 from .osm_reading import PIECE_BYTES
 
@@ -37,12 +37,14 @@ CLOSING = frozenset((400, 401, 403, 408, 413, 415, 500))
 class Settings:
     """How clients reach the application. `hosts` are the accepted values of the header Host. `fixed_name` is the author
     of all requests. Without it, each request names its author by HTTP Basic, and a proxy in front of the application
-    has checked the password. `public_url` is the root as clients know it."""
+    has checked the password. If there is an `author_header`, the proxy names the author in it, and HTTP Basic does not
+    count. `public_url` is the root as clients know it."""
 
     hosts: frozenset[str]
     fixed_name: str | None = None
     public_url: str = ""
     body_seconds: float = 60
+    author_header: str | None = None
 
 
 def loopback_hosts(port: int) -> frozenset[str]:
@@ -119,6 +121,7 @@ class RequestHandler:
             HTML in accepted,
             self._base(request),
             request.content_length or 0,
+            self._settings.author_header is not None,
         )
 
     def _base(self, request: web.Request) -> str:
@@ -165,6 +168,8 @@ class RequestHandler:
         """Returns the author of a request, or None if it names nobody. Raises ApiError 401 for an invalid name."""
         if self._settings.fixed_name is not None:
             return self._settings.fixed_name
+        if self._settings.author_header is not None:
+            return self._author_by_proxy(request.headers.getall(self._settings.author_header, []))
         scheme, _, given = request.headers.get("Authorization", "").partition(" ")
         if not scheme:
             return None
@@ -175,6 +180,16 @@ class RequestHandler:
         if scheme.lower() != "basic" or not NAME.fullmatch(name):
             raise ApiError(401, NO_NAME)
         return name
+
+    @staticmethod
+    def _author_by_proxy(values: Sequence[str]) -> str | None:
+        """Returns the author whom the proxy names, or None if it names nobody. Raises ApiError 403 for what is no name:
+        another password would not help."""
+        if not values or values == [""]:
+            return None
+        if len(values) > 1 or not NAME.fullmatch(values[0]):
+            raise ApiError(403, NO_LOGIN_NAME)
+        return values[0]
 
 
 def wants_json(accepted: str) -> bool:

@@ -8,7 +8,8 @@ what others changed, and undoes uploads. docs/EDITORS.md describes the editors, 
 
 The first command is for one mapper, on the mapper's own machine: every upload is by the author lina. The second
 command is for a group: each request names its author by HTTP Basic, and nginx in front of the program checks the
-password. The program itself checks no passwords, so without --host it answers programs on this machine only.
+password. The program itself checks no passwords, so without --host it answers programs on this machine only. With
+--trust-header it takes the author from the header of --name-header, which nginx has to set.
 
 The ledger keeps the version of each element. Without a ledger, edits that a mapper has not uploaded become conflicts
 when the program starts again. Each program needs its own ledger.
@@ -33,6 +34,7 @@ import re
 import signal
 from pathlib import Path
 
+from ..commands.login import add_login, take_password
 from ..commands.osm_api import note
 from ..errors import Error
 from .bridge import NotLoopback, Options, bridge
@@ -74,6 +76,13 @@ def arguments() -> argparse.Namespace:
     parser.add_argument(
         "--name", type=name_of, help="the author of all uploads; otherwise each request names its author"
     )
+    add_login(parser)
+    parser.add_argument(
+        "--trust-header",
+        action="store_true",
+        help="take the author of a request from the header of --name-header, which the proxy sets, and not from "
+        "HTTP Basic",
+    )
     parser.add_argument("--ledger", type=Path, metavar="FILE", help="the file that keeps the versions of elements")
     parser.add_argument(
         "--listen",
@@ -101,12 +110,16 @@ def arguments() -> argparse.Namespace:
     parser.add_argument(
         "--kept", type=Path, metavar="FOLDER", help="the folder of the room's keeper, for the time of its last save"
     )
-    return parser.parse_args()
+    options = parser.parse_args()
+    if options.trust_header and (options.name or not options.name_header):
+        parser.error("--trust-header goes with --name-header, and without --name")
+    return options
 
 
 async def serve(options: argparse.Namespace) -> None:
     """Runs until a signal comes, or until the room ends for good."""
     share_fairly()
+    take_password(options)
     ending, loop = asyncio.Event(), asyncio.get_running_loop()
     for number in (signal.SIGTERM, signal.SIGINT):
         loop.add_signal_handler(number, ending.set)
@@ -120,8 +133,10 @@ async def serve(options: argparse.Namespace) -> None:
         options.public_url,
         options.patience,
         options.kept,
+        options.name_header if options.trust_header else None,
     )
-    async with ServerRoom(options.url, options.room, options.name or READER) as room:
+    reader, header = options.name or READER, options.name_header
+    async with ServerRoom(options.url, options.room, reader, name_header=header) as room:
         async with bridge(room, settings, note) as url:
             keep_what_is_there()
             print(url, flush=True)

@@ -124,11 +124,15 @@ class ServerRoom:
     """A room on a server, for `async with`.
 
     The session of `reader` follows the map, and also writes what an author of that name writes. Any other author gets
-    a session at its first write, which is closed after `idle_seconds` without another."""
+    a session at its first write, which is closed after `idle_seconds` without another. `name_header` is the header in
+    which the server wants the name of each."""
 
-    def __init__(self, url: str, room: str, reader: str, idle_seconds: float = 60) -> None:
+    def __init__(
+        self, url: str, room: str, reader: str, idle_seconds: float = 60, name_header: str | None = None
+    ) -> None:
         self.url, self.room, self.idle_seconds = url, room, idle_seconds
-        self._reader = Reader(url, room, reader, timeout=None)
+        self._name_header = name_header
+        self._reader = Reader(url, room, reader, timeout=None, name_header=name_header)
         self._reader.on_event(self._on_event)
         self._listeners: list[Listener] = []
         self._sessions: dict[str, AuthorSession] = {}
@@ -156,7 +160,9 @@ class ServerRoom:
             await self._reader.ask(guarded(messages.group([]), -1))
         except (BadField, UnknownDo) as refusal:
             if refusal.no.get("field") != "since":
-                raise TooOld(f"the server at {self.url} is older than version 2.0.0, which uploads need") from refusal
+                raise TooOld(
+                    f"the server at {self._reader.url} is older than version 2.0.0, which uploads need"
+                ) from refusal
 
     async def __aexit__(
         self, kind: type[BaseException] | None, fault: BaseException | None, trace: TracebackType | None
@@ -434,7 +440,7 @@ class ServerRoom:
     async def _opened(self, author: str) -> Writer:
         """Opens a session, as soon as there is a connection."""
         while True:
-            room = Writer(self.url, self.room, author, timeout=None)
+            room = Writer(self.url, self.room, author, timeout=None, name_header=self._name_header)
             try:
                 await room.open()
                 return room

@@ -48,7 +48,8 @@ class NotPublished(Exception):
 class Plan:
     """What a replicator does: which room it follows under which name, and in which folder it publishes. A diff has what
     came within `every` seconds, or within one second if that is less. `public_url` is where followers find the folder.
-    With `many_gone` it goes on if most of the map is gone. For `patience` seconds it tries to write."""
+    With `many_gone` it goes on if most of the map is gone. For `patience` seconds it tries to write. `name_header` is
+    the header in which the server wants the name."""
 
     folder: str
     url: str
@@ -58,6 +59,7 @@ class Plan:
     public_url: str = ""
     many_gone: bool = False
     patience: float = 60
+    name_header: Optional[str] = None
 
 
 class Replicator:
@@ -122,7 +124,7 @@ class Replicator:
         """The room, as soon as there is a session. None if the replicator is to end first."""
         is_noted = False
         while not self._ends.is_set():
-            room = connect(self.plan.url, room=self.plan.room, name=self.plan.name)
+            room = connect(self.plan.url, room=self.plan.room, name=self.plan.name, name_header=self.plan.name_header)
             opening = asyncio.ensure_future(room.open())
             await self._until_end(opening)
             if not opening.done():
@@ -258,7 +260,7 @@ class Replicator:
             await asyncio.sleep(LOOK)
             is_open = room.state == "open"
             if is_open != was_open:
-                self.note("connected again" if is_open else f"the connection to {self.plan.url} broke; trying again")
+                self.note("connected again" if is_open else f"the connection to {room.url} broke; trying again")
             was_open = is_open
 
     # ---- Publishing
