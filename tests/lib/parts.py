@@ -51,7 +51,7 @@ SCRIPTS = [
     *scripts("clients", "converters", "osm_files", "example_clients", "libraries"),
     *scripts("program", "groups"),
     *scripts("clients", "editors", "editors_rooms", "josm_live", "josm_window", "keeper", "replication"),
-    *scripts("packages", "debian", "rooms"),
+    *scripts("packages", "debian", "rooms", "names"),
     *scripts("documents", "running"),
     *scripts("web", "map_page", "firefox"),
     *scripts("server", "sockets", "faults", "foreign"),

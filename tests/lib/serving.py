@@ -10,7 +10,7 @@ import socket
 import subprocess
 import tempfile
 import time
-from collections.abc import Mapping
+from collections.abc import Mapping, Sequence
 from typing import IO, Any, Optional, TypeVar
 
 from .websocket import Broken, Client, Late
@@ -52,8 +52,9 @@ def ends_of(log: str) -> dict[int, str]:
 
 
 class Server:
-    """A server of some rooms, for a number of sessions. With `base` the rooms begin with its map. `host` is where it
-    listens, as `--addr` has it. The end of its block closes its clients, and ends it."""
+    """A server of some rooms, for a number of sessions or without end. With `base` the rooms begin with its map. `host`
+    is where it listens, as `--addr` has it, and `options` are further options. The end of its block closes its clients,
+    and ends it."""
 
     output: IO[bytes]
     errors: IO[bytes]
@@ -65,12 +66,14 @@ class Server:
         program: str,
         *rooms: str,
         workers: int = 2,
-        sessions: int = 1,
+        sessions: Optional[int] = 1,
         limit: Optional[int] = None,
         base: Optional[str] = None,
         patience: float = 20,
         host: str = "127.0.0.1",
+        options: Sequence[str] = (),
     ) -> None:
+        self.options = options
         self.program, self.rooms = program, rooms or ("paris",)
         self.workers, self.sessions, self.limit, self.base = workers, sessions, limit, base
         self.patience, self.host = patience, host
@@ -79,7 +82,8 @@ class Server:
 
     def command(self, addr: str) -> list[str]:
         """The command that serves at an address."""
-        arguments = ["serve", "--addr", addr, "--workers", str(self.workers), "--sessions", str(self.sessions)]
+        arguments = ["serve", "--addr", addr, "--workers", str(self.workers), *self.options]
+        arguments += [] if self.sessions is None else ["--sessions", str(self.sessions)]
         arguments += [] if self.limit is None else ["--limit", str(self.limit)]
         arguments += [] if self.base is None else ["--base"]
         return [self.program, *arguments, *self.rooms]

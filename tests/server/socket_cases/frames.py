@@ -166,7 +166,7 @@ def other_heads() -> None:
     heads: tuple[dict[str, Any], ...] = (
         {"first": "GET /any/path?room=paris HTTP/1.1"},
         {"connection": "keep-alive, Upgrade", "upgrade": "WebSocket"},
-        {"origin": "http://maproom.test", "user_agent": "x" * 1000, "cookie": "a=b"},
+        {"origin": "http://localhost:8000", "user_agent": "x" * 1000, "cookie": "a=b"},
         {"sec_websocket_extensions": "permessage-deflate; client_max_window_bits", "sec_websocket_protocol": "chat"},
     )
     with serving(workers=1, sessions=len(heads)) as server:

@@ -422,7 +422,7 @@ def connected(port: int, deadline: float) -> Client:
 def as_many_as_there_may_be() -> None:
     """As many rooms and workers as there may be, and the longest name of a room."""
     rooms = [*(f"room_{number}" for number in range(63)), "a" * 32]
-    with serving(*rooms, workers=64, sessions=2) as server:
+    with serving(*rooms, workers=1024, sessions=2) as server:
         for room in rooms[62:]:
             anna = server.client()
             talk(anna, hello("anna", room), welcome(0))
@@ -533,11 +533,10 @@ def refused_words() -> None:
         options[:-1],
         [options[0], *options[3:]],
         [*options[:3], *options[5:]],
-        [*options[:5], *options[7:]],
     ]
     lines += [[*options, "--limit"], [*options, "--port", "1"], [*options, "--workers", "2"]]
     for option, values in {
-        "--workers": ("0", "65", "-1", "x", "1.0", "", "4294967297"),
+        "--workers": ("0", "1025", "-1", "x", "1.0", "", "4294967297"),
         "--sessions": ("0", "1000001", "-1", "1e3", "", "18446744073709551617"),
     }.items():
         at = options.index(option) + 1

@@ -146,9 +146,12 @@ def a_link_that_works_here_alone() -> None:
     file or comes from this computer, or the address of the server means this computer."""
     far = ("maps.example.org", "192.0.2.7")
     rules = ", ".join(f"MAP {host} 127.0.0.1" for host in far)
-    with serving(workers=4, sessions=20, base=base_of(village())) as server, PageFiles() as files, browser(
-        chromium(), f"--host-resolver-rules={rules}"
-    ) as chrome:
+    with contextlib.ExitStack() as kept:
+        files = kept.enter_context(PageFiles())
+        # A browser says `null` of a page that was opened as a file.
+        origins = ("--origin", "null", "--origin", f"http://maps.example.org:{files.port}")
+        server = kept.enter_context(serving(workers=4, sessions=20, base=base_of(village()), options=origins))
+        chrome = kept.enter_context(browser(chromium(), f"--host-resolver-rules={rules}"))
         fields = urllib.parse.urlencode({"address": f"ws://localhost:{server.port}", "room": "paris", "name": "anna"})
         here = f"http://localhost:{files.port}/?{fields}"
         there = f"http://maps.example.org:{files.port}/?{fields}"
@@ -190,9 +193,10 @@ def a_link_that_works_here_alone() -> None:
 
 @page_case
 def a_page_from_a_file() -> None:
-    """Opened as a file the page works, with Leaflet of the system, and says what a server that refuses it wants."""
+    """Opened as a file the page works, with Leaflet of the system, if the server lets such pages in. It says what a
+    server that refuses it wants."""
     with PageFiles(statuses={"/hamlet": 403}) as files, browser(chromium()) as chrome, serving(
-        workers=2, sessions=9, base=base_of(village())
+        workers=2, sessions=9, base=base_of(village()), options=("--origin", "null")
     ) as server:
         fields = {"address": f"ws://127.0.0.1:{server.port}", "room": "paris", "name": "anna"}
         page = opened(chrome, f"file://{TOP}/clients/page/map.html?{urllib.parse.urlencode(fields)}")
