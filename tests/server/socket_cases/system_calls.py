@@ -102,12 +102,10 @@ class Fault(NamedTuple):
     ending: str
 
 
-def is_passed_over(fault: Fault, place: int) -> bool:
-    """Whether the program repeats a call that fails so after this number of answered steps. These are reads in which
-    nothing comes, and reads and writes that a signal interrupts, but no write of the handshake."""
-    if fault.call == "read":
-        return fault.why in (errno.EINTR, errno.EAGAIN)
-    return fault.why == errno.EINTR and place > 0
+def is_passed_over(fault: Fault) -> bool:
+    """Whether the program repeats a call that fails so. These are reads in which nothing comes, and reads and writes
+    that a signal interrupts."""
+    return fault.why == errno.EINTR or (fault.call == "read" and fault.why == errno.EAGAIN)
 
 
 def end_of(fault: Fault, place: int) -> str:
@@ -115,7 +113,7 @@ def end_of(fault: Fault, place: int) -> str:
     of the close, or the failed read that of its answer."""
     close = 1 + len(STORY)
     is_closing = place == close if fault.call == "write" else place > close and fault.ending == "binary"
-    return fault.ending if is_closing or is_passed_over(fault, place) else "fault"
+    return fault.ending if is_closing or is_passed_over(fault) else "fault"
 
 
 def serve_after(server: Server, seq: int) -> int:
@@ -139,10 +137,10 @@ def fail_in_session(fault: Fault, number: int) -> bool:
     with failing(fault.call, number, fault.why, fault.piece, sessions=2) as server:
         place, rest = play(server.connect(), story)
         is_first = server.has_failed()
-        if not is_first or is_passed_over(fault, place):
+        if not is_first or is_passed_over(fault):
             want((place > 1 + len(STORY), rest), (True, b""))
         want(place == len(story) or story[place].wanted.startswith(rest), True)
-        if is_first or is_passed_over(fault, 0):
+        if is_first or is_passed_over(fault):
             heard = story[: place + (fault.call == "write")]
             entry_count = serve_after(server, heard[-1].seq if heard else 0)
             finish(server, entry_count, end_of(fault, place), "left")
