@@ -9,6 +9,7 @@ import contextlib
 import functools
 import http.client
 import json
+import os
 import queue
 import socket
 import subprocess
@@ -19,6 +20,7 @@ from typing import TYPE_CHECKING, Any, NamedTuple, cast
 
 from .cases import TOP, given, want
 from .fake_rooms import FakeRoom
+from .measuring import Stopwatch
 from .messages import compact
 from .proxy import Hold, Proxy
 from .serving import Server, Session, place_of
@@ -210,6 +212,10 @@ class Place:
             serving(ROOM, workers=self.workers, sessions=10_000, limit=self.limit, base=base)
         )
 
+    def processes(self) -> list[int]:
+        """The process of the server, if it is the built program. Otherwise it is this process."""
+        return [self.server.process.pid] if isinstance(self.server, Server) else []
+
     def session(self, name: str) -> Session:
         """A session of a mapper that does not use the way."""
         client = self.kept.enter_context(Client(self.server.port, patience=PATIENCE * given.slow))
@@ -341,13 +347,17 @@ class OsmApi:
 
 
 class Watcher:
-    """A mapper who makes small calls again and again while somebody else keeps the program busy, for a block. `longest`
-    has the time of the slowest call of each kind. The map needs a node n3 at 7 degrees north and 8 degrees east."""
+    """A mapper who makes small calls again and again while somebody else keeps the program busy, for a block.
+
+    `longest` has the time of the slowest call of each kind. The time for which the test and `processes` waited for a
+    processor does not count, because other programs may have taken it. The map needs a node n3 at 7 degrees north and
+    8 degrees east."""
 
     PATHS = ("/api/capabilities", "/api/0.6/node/3", "/api/0.6/map?bbox=7,6,9,8", "/")
 
-    def __init__(self, port: int) -> None:
+    def __init__(self, port: int, *processes: int) -> None:
         self.port, self.count, self.faults = port, 0, ""
+        self.processes = (os.getpid(), *processes)
         self.longest = dict.fromkeys((*self.PATHS, "upload", "undo"), 0.0)
         self._ends = threading.Event()
         self._thread = threading.Thread(target=self._watch)
@@ -385,11 +395,11 @@ class Watcher:
 
     def _call(self, connection: http.client.HTTPConnection, method: str, path: str, body: str | None, name: str) -> str:
         """Makes a call, and notes its time."""
-        began = time.monotonic()
+        watch = Stopwatch(*self.processes)
         connection.request(method, path, body, self._headers)
         answer = connection.getresponse()
         text = answer.read().decode()
-        self.longest[name] = max(self.longest[name], time.monotonic() - began)
+        self.longest[name] = max(self.longest[name], watch.seconds)
         self.count += 1
         if answer.status != 200:
             self.faults += f"{method} {path}: {answer.status} {text[:200]}\n"

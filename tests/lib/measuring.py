@@ -2,6 +2,8 @@
 from __future__ import annotations
 
 import argparse
+import contextlib
+import glob
 import os
 import re
 import subprocess
@@ -89,6 +91,33 @@ def measure(program: str, script: str, replies: str, *options: str) -> tuple[flo
     if status:
         sys.exit(f"{program} ended with status {status}")
     return taken, max(peaks)
+
+
+class Stopwatch:
+    """Takes time from its start on, without the time for which the threads of these processes were ready to run, and
+    the machine had no processor for them. A kernel that does not measure this counts all time."""
+
+    def __init__(self, *processes: int) -> None:
+        self._processes = processes
+        self._waited = self._waits()
+        self._began = time.monotonic()
+
+    @property
+    def seconds(self) -> float:
+        """The time since the start."""
+        taken = time.monotonic() - self._began
+        waited = sum(wait - self._waited.get(thread, 0) for thread, wait in self._waits().items())
+        return max(0, taken - waited / 1e9)
+
+    def _waits(self) -> dict[str, int]:
+        """For how many nanoseconds each thread was ready to run and did not run."""
+        waits = {}
+        for process in self._processes:
+            for path in glob.glob(f"/proc/{process}/task/*/schedstat"):
+                with contextlib.suppress(OSError):  # the thread has ended
+                    with open(path, encoding="ascii") as file:
+                        waits[path] = int(file.read().split()[1])
+        return waits
 
 
 def memory_of(process: int, values: Sequence[str] = ("VmRSS", "VmHWM")) -> tuple[float, ...]:
