@@ -2,7 +2,7 @@
 
     %(prog)s village.osm >village.base
     %(prog)s --bbox 11.35,48.10,11.45,48.16 bayern.osm.pbf >village.base
-    maproom serve --base --addr 127.0.0.1:9001 --workers 8 --sessions 1000000 village <village.base
+    maproom serve --base --addr 127.0.0.1:9001 --workers 8 village <village.base
 
 JOSM, Overpass or the API writes such a file in XML, which can be compressed (`.osm.gz`, `.osm.bz2`). pyosmium (Debian:
 python3-pyosmium) reads `.osm.pbf`, and `.osc` or `.osc.gz`, of which the base has the elements that the changes leave.
