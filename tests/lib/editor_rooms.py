@@ -22,9 +22,10 @@ from .cases import TOP, given, want
 from .fake_rooms import FakeRoom
 from .measuring import Stopwatch
 from .messages import compact
+from .programs import PATIENCE
 from .proxy import Hold, Proxy
 from .serving import Server, Session, place_of
-from .talk import PATIENCE, serving
+from .talk import serving
 from .websocket import Client
 
 if TYPE_CHECKING:

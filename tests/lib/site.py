@@ -13,7 +13,7 @@ import tempfile
 from collections.abc import Iterator, Sequence
 from typing import Any
 
-from .cases import TOP, want
+from .cases import TOP, given, want
 from .programs import PATIENCE, run_soon, wait_for
 from .serving import free_port
 from .talk import serving
@@ -180,7 +180,7 @@ class Nginx:
 
     def connected(self) -> Client:
         """A client that is connected by TLS, and has sent nothing yet."""
-        client = Client(self.port, PATIENCE)
+        client = Client(self.port, PATIENCE * given.slow)
         context = ssl.create_default_context(cafile=f"{self.path}/certificate")
         client.socket = context.wrap_socket(client.socket, server_hostname="maps.example.org")
         return client
