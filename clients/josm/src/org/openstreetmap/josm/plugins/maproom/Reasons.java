@@ -16,8 +16,8 @@ final class Reasons {
                     + "coordinate lies in the world"),
             Map.entry("no_room", "the server has no such room"),
             Map.entry("wrong_name", "you are logged in as {name}: join under that name"),
-            Map.entry("no_name", "the server was not told who you are: log in, and ask its operator whether your login "
-                    + "has a name"),
+            Map.entry("no_name", "the server was not told who you are: log in, and ask its operator whether your "
+                    + "login has a name"),
             Map.entry("repeat", "another program uses your name in the room"),
             Map.entry("full", "the journal of the room is full"),
             Map.entry("nothing_to_undo", "there is nothing to undo"),
