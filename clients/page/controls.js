@@ -57,10 +57,12 @@ function listenToInputs(page) {
   const count = () => {
     page.inputs += 1;
   };
-  document.addEventListener("pointerdown", ({ pointerType }) => {
+  document.addEventListener("pointerdown", (event) => {
     count();
-    if (pointerType) page.isTouch = pointerType !== "mouse";
+    if (event.pointerType) page.isTouch = event.pointerType !== "mouse";
+    if (isIn(event, "#side, #above")) page.panels.press();
   }, true);
+  for (const kind of ["pointerup", "pointercancel"]) document.addEventListener(kind, () => page.panels.release(), true);
   document.addEventListener("keydown", count, true);
   document.addEventListener("click", (event) => event.detail || count(), true);
 }

@@ -6,6 +6,7 @@
 //     View            the window on them, with Leaflet; Pointers reports clicks and drags, labels.js places the names
 //     Tools           what clicks, drags and keys on the map do; Overlay draws that over the map
 //     Panels          the lists and fields next to the map
+//     Journal         the lists of changes, and who made them
 //     TagForm         the fields of the tags; a TagDraft has those that are typed
 //     Warnings        the faults that Checks finds, in what the mapper changed and in the whole map
 //     Questions       what the mapper is asked if somebody else changed the same value

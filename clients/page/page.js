@@ -69,6 +69,7 @@ class Page {
     this.tools = new Tools(this);
     this.overlay = new Overlay(this);
     this.panels = new Panels(this);
+    this.journal = new Journal(this);
     this.warnings = new Warnings(this);
     this.questions = new Questions(this);
     this.copies = new Copies();
@@ -229,7 +230,7 @@ class Page {
     entry.text = deedsOf(rows, movedWays(rows, this.shapes, this.elements));
     if (isOther) this.overlay.markFresh(rows.filter(({ after }) => after).map(({ el }) => el), entry.by);
     this.view.repaint(boxes);
-    this.panels.showChange(entry);
+    this.journal.showChange(entry);
     for (const { el, after } of rows) this.panels.learnText(el, after);
     this.tools.refreshDraft();
     this.refreshSelected(rows);
@@ -273,25 +274,25 @@ class Page {
   afterwards() {
     clearTimeout(this.later);
     this.later = setTimeout(() => {
-      this.panels.showPeople();
+      this.journal.showPeople();
       this.panels.showFigures();
       this.panels.refreshFound();
     }, 100);
   }
 
   showHistory() {
-    this.panels.showUndos();
+    this.journal.showUndos();
     clearTimeout(this.changesLater);
     this.changesLater = setTimeout(() => {
-      this.panels.showChanges();
-      this.panels.showPeople();
+      this.journal.showChanges();
+      this.journal.showPeople();
     }, 50);
   }
 
   showConflict() {
     const { conflict } = this.joinedSession;
-    this.panels.showUndos();
-    this.panels.showChanges();
+    this.journal.showUndos();
+    this.journal.showChanges();
     if (!conflict && this.refusal?.isConflict) this.say("What was in the way is gone.");
     this.view.paintOverSoon();
   }
@@ -322,9 +323,9 @@ class Page {
     this.questions.drop(() => new NotDone("closed"));
     if (why) this.sayWrong(why);
     if (isKept) this.sayWrong("What you drew is kept: connect to the same room to go on with it.");
-    this.panels.showUndos();
-    this.panels.showChanges();
-    this.panels.showPeople();
+    this.journal.showUndos();
+    this.journal.showChanges();
+    this.journal.showPeople();
   }
 
   showSaved() {

@@ -15,7 +15,6 @@
 
 const MOST_SHOWN = 50;
 const CHOOSE = "Choose something on the map, or from a list below.";
-const NONE_CAME = "No change came while you were connected.";
 const CONNECT = "Connect to a room to see its map, and to draw on it.";
 
 const TOWNS = ["city", "town", "village"];
@@ -47,6 +46,37 @@ class Panels {
     this.sights = new Map(); // what the mapper saw when they began to type in a field, by its name
     /** @type {Map<string, SearchText> | null} */
     this.texts = null; // what is looked through, by the names of the elements
+    this.isPressed = false; // whether the pointer is down on a list or a field
+    /** @type {Map<string, () => void>} */
+    this.postponed = new Map(); // what is shown when it is up again, by the parts
+  }
+
+  // ---- Presses
+
+  /** From now on everything stays where it is, since a button that moves or is made anew gets no click. */
+  press() {
+    this.isPressed = true;
+  }
+
+  /** The pointer is up: what came meanwhile is shown once the click is done. */
+  release() {
+    if (!this.isPressed) return;
+    this.isPressed = false;
+    setTimeout(() => {
+      const works = [...this.postponed.values()];
+      this.postponed.clear();
+      for (const work of works) work();
+    });
+  }
+
+  /**
+   * Shows a part of the panel, now or when the pointer is up.
+   * @param {string} part
+   * @param {() => void} work
+   */
+  put(part, work) {
+    if (this.isPressed) this.postponed.set(part, work);
+    else work();
   }
 
   showAll() {
@@ -54,9 +84,7 @@ class Panels {
     this.showRelations();
     this.texts = null;
     this.showFound();
-    this.showUndos();
-    this.showChanges();
-    this.showPeople();
+    this.page.journal.showAll();
     this.tags.showTyped();
     this.showFigures();
   }
@@ -82,6 +110,11 @@ class Panels {
 
   /** Shows what is selected. Fields in which somebody types keep their text and the focus, unless `isAnew`. */
   showSelected(isAnew = false) {
+    this.put("selected", () => this.putSelected(isAnew));
+  }
+
+  /** @param {boolean} isAnew */
+  putSelected(isAnew) {
     const { selected } = this.page;
     const rows = this.page.rowsOf(selected);
     const [row] = rows;
@@ -439,80 +472,15 @@ class Panels {
   // ---- Lists
 
   showRelations() {
+    this.put("relations", () => this.putRelations());
+  }
+
+  putRelations() {
     const { page } = this;
     const names = [...page.shapes.relations].sort((one, other) => idOf(one) - idOf(other));
     $("relations").replaceChildren(...names.slice(0, 200).map((el) => make("li", {}, this.elementButton(el))),
       ...(names.length > 200 ? [soft("li", `${names.length - 200} more: use Find.`)] : []),
       ...(names.length ? [] : [soft("li", "None.")]));
-  }
-
-  showUndos() {
-    const { session } = this.page;
-    const { undos, redos } = session && this.page.isInside ? session : { undos: [], redos: [] };
-    /**
-     * @param {Gesture[]} gestures
-     * @param {number} most
-     */
-    const lines = (gestures, most) => this.runsOf(gestures).slice(-most).reverse();
-    const items = [...lines(undos, 100).map((run) => this.undoItem(run)),
-    ...lines(redos, 20).map((run, index) => this.redoItem(run, index === 0))];
-    $("undos").replaceChildren(...items);
-    if (!undos.length && !redos.length) $("undos").append(soft("li", "Nothing yet."));
-    const [last, taken] = [undos.at(-1), redos.at(-1)];
-    /**
-     * @param {Gesture | undefined} seqs
-     * @param {string} what
-     * @param {string} keys
-     */
-    const title = (seqs, what, keys) => (seqs ? `${what}: ${session?.textOf(seqs[0])} (${keys})` : "");
-    Object.assign($("undo"), { disabled: !last, title: title(last, "Undo", "Ctrl+Z") });
-    Object.assign($("redo"), { disabled: !taken, title: title(taken, "Redo", "Ctrl+Y") });
-  }
-
-  /**
-   * Gestures in lists: each of its own, but those together of which nothing is known.
-   * @param {Gesture[]} gestures
-   */
-  runsOf(gestures) {
-    /** @type {Gesture[][]} */
-    const runs = [];
-    let wasUnknown = false;
-    for (const seqs of gestures) {
-      const isUnknown = !this.page.joinedSession.isKnown(seqs[0]);
-      if (wasUnknown && isUnknown) lastOf(runs).push(seqs);
-      else runs.push([seqs]);
-      wasUnknown = isUnknown;
-    }
-    return runs;
-  }
-
-  /**
-   * A line for gestures of which the last can be undone.
-   * @param {Gesture[]} run
-   */
-  undoItem(run) {
-    const session = this.page.joinedSession;
-    const last = lastOf(run);
-    const isBlocked = session.conflict !== null && last.includes(session.conflict.seq);
-    const many = `${run.length} earlier entries, made before you came`;
-    const text = run.length > 1 ? many : `${last[0]}: ${session.textOf(last[0])}`;
-    const what = run.length > 1 ? `Undo the last of them, entry ${last[0]}` : `Undo entry ${text}`;
-    const word = run.length > 1 ? `Undo ${last[0]}` : "Undo";
-    return make("li", { className: isBlocked ? "blocks" : "" }, make("span", { textContent: text }),
-      button(word, () => this.page.undo(last), { label: what, title: what }));
-  }
-
-  /**
-   * A line for undone gestures, of which the last of all can be redone.
-   * @param {Gesture[]} run
-   * @param {boolean} isLast
-   */
-  redoItem(run, isLast) {
-    const [seq] = lastOf(run);
-    const many = `${run.length} undone entries, made before you came`;
-    const text = run.length > 1 ? many : `${seq}, undone: ${this.page.joinedSession.textOf(seq)}`;
-    const redo = isLast ? [button("Redo", () => this.page.redo(), { label: `Redo entry ${seq}` })] : [];
-    return make("li", { className: "soft" }, make("span", { textContent: text }), ...redo);
   }
 
   /** Lists the changes that were not done, those together that have the same reason. */
@@ -528,60 +496,6 @@ class Panels {
     $("not-done").hidden = page.notDone.length === 0;
     $("not-done-title").textContent = page.countNotDone();
     $("not-done-changes").replaceChildren(...parts);
-  }
-
-  /** @param {Entry} entry */
-  changeItem(entry) {
-    const { page } = this;
-    const session = page.joinedSession;
-    const author = make("b", { textContent: session.subjectOf(entry) });
-    const text = make("span", {}, `${entry.seq} `, author, ` ${session.deed(entry)} `, timeOf(entry.at));
-    const go = button("Go", () => page.showEntry(entry), { label: `Go to entry ${entry.seq} on the map` });
-    const item = make("li", {}, dotOf(entry.by), text, ...(entry.rows.length ? [go] : []));
-    item.classList.toggle("blocks", entry.seq === session.conflict?.with);
-    item.dataset.seq = String(entry.seq);
-    return item;
-  }
-
-  /** @param {Entry} entry */
-  showChange(entry) {
-    const list = $("changes");
-    if (!this.page.joinedSession.entries.has(entry.seq - 1)) {
-      this.showChanges();
-      return;
-    }
-    list.prepend(this.changeItem(entry));
-    while (list.children.length > MOST_SHOWN) list.lastElementChild?.remove();
-  }
-
-  showChanges() {
-    const entries = [...(this.page.session?.entries.values() ?? [])].slice(-MOST_SHOWN).reverse();
-    $("changes").replaceChildren(...entries.map((entry) => this.changeItem(entry)));
-    if (!entries.length) $("changes").append(soft("li", this.page.isInside ? "Changes appear here." : NONE_CAME));
-  }
-
-  showPeople() {
-    /** @type {Map<string, Entry>} */
-    const latest = new Map();
-    const { session } = this.page;
-    for (const entry of session?.entries.values() ?? []) {
-      latest.delete(entry.by);
-      latest.set(entry.by, entry);
-    }
-    const entries = [...latest.values()].reverse().slice(0, 64);
-    $("people").replaceChildren(...entries.map((entry) => this.personItem(entry)));
-    const none = this.page.isInside ? "Whoever changes something appears here." : NONE_CAME;
-    if (!latest.size) $("people").append(soft("li", none));
-  }
-
-  /** @param {Entry} entry */
-  personItem(entry) {
-    const session = this.page.joinedSession;
-    const author = make("b", { textContent: session.subjectOf(entry) });
-    const text = make("span", {}, author, ` ${session.deed(entry)} `, timeOf(entry.at));
-    const who = entry.by === session.name ? "you were" : `${entry.by} was`;
-    const go = button("Go", () => this.page.showEntry(entry), { label: `Go to where ${who} last` });
-    return make("li", {}, dotOf(entry.by), text, ...(entry.rows.length ? [go] : []));
   }
 
   // ---- Find
@@ -643,7 +557,8 @@ class Panels {
 
   /** Searches again after news, unless somebody uses the list at the moment. */
   refreshFound() {
-    if ($("find").value.trim() && !$("found").contains(document.activeElement)) this.showFound();
+    if (!$("find").value.trim() || $("found").contains(document.activeElement)) return;
+    this.put("found", () => this.showFound());
   }
 
   showMoreFound() {

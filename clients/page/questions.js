@@ -38,6 +38,10 @@ class Questions {
   }
 
   show() {
+    this.page.panels.put("question", () => this.put());
+  }
+
+  put() {
     const [question] = this.open;
     $("question").hidden = !question;
     if (!question) return;

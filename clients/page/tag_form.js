@@ -255,10 +255,12 @@ class TagForm {
     /** @type {HTMLButtonElement | null} */
     const discard = $("selected").querySelector("form > .row > button:last-child");
     if (discard) discard.hidden = drafts.length === hidden.length;
-    $("unsaved-tags").hidden = hidden.length === 0;
     const all = button("Save all", () => this.save(...this.unsaved()), { title: "All typed tags, as one change" });
-    $("typed").replaceChildren(...hidden.map((draft) => this.unsavedItem(draft)),
-      ...(drafts.length > 1 ? [make("li", {}, all)] : []));
+    page.panels.put("typed", () => {
+      $("unsaved-tags").hidden = hidden.length === 0;
+      $("typed").replaceChildren(...hidden.map((draft) => this.unsavedItem(draft)),
+        ...(drafts.length > 1 ? [make("li", {}, all)] : []));
+    });
     page.showSaved();
   }
 

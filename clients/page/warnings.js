@@ -209,6 +209,10 @@ class Warnings {
   }
 
   show() {
+    this.page.panels.put("warnings", () => this.putList());
+  }
+
+  putList() {
     const shown = this.shown();
     const rest = shown.length - this.mostShown;
     $("warnings").replaceChildren(...shown.slice(0, this.mostShown).map((fault) => this.item(fault)));

@@ -87,6 +87,9 @@ class Browser:
 class Owner(Protocol):
     """What a page asks: the browser that has it."""
 
+    def tell(self, method: str, **how: Any) -> None:
+        """Sends a request, and does not wait for the answer."""
+
     def ask(self, method: str, **how: Any) -> dict[str, Any]:
         """Sends a request, and returns the answer."""
 
@@ -103,6 +106,13 @@ class Page:
     def ask(self, method: str, **how: Any) -> dict[str, Any]:
         """Sends a request to the browser for this page."""
         return self.owner.ask(method, session=self.session, **how)
+
+    def ask_together(self, method: str, *each: dict[str, Any]) -> None:
+        """Sends several requests for this page without a pause between them, and waits for the last answer."""
+        *before, last = each
+        for how in before:
+            self.owner.tell(method, session=self.session, **how)
+        self.ask(method, **last)
 
     def resize(self, width: int, height: int, is_phone: bool = False) -> None:
         """Gives the window another size, and a touch screen if it is a phone."""
@@ -144,26 +154,30 @@ class Page:
         """Sends an event of the pointer to the page."""
         self.ask("Input.dispatchMouseEvent", type=kind, x=x, y=y, **{"button": "left", "clickCount": 1, **how})
 
-    def click_at(self, x: float, y: float) -> None:
-        """Clicks at a point of the window."""
-        self.mouse("mousePressed", x, y)
-        self.mouse("mouseReleased", x, y)
+    def click_at(self, x: float, y: float, count: int = 1) -> None:
+        """Clicks at a point of the window, perhaps several times. However slow the browser is, there is no pause
+        between the clicks."""
+        kinds = ("mousePressed", "mouseReleased")
+        events = [(kind, number) for number in range(1, count + 1) for kind in kinds]
+        about = {"x": x, "y": y, "button": "left"}
+        self.ask_together(
+            "Input.dispatchMouseEvent", *({"type": kind, "clickCount": number, **about} for kind, number in events)
+        )
 
     def double_click_at(self, x: float, y: float) -> None:
         """Clicks twice at a point of the window."""
-        self.click_at(x, y)
-        self.mouse("mousePressed", x, y, clickCount=2)
-        self.mouse("mouseReleased", x, y, clickCount=2)
+        self.click_at(x, y, count=2)
 
     def fingers(self, kind: str, *points: tuple[float, float]) -> None:
         """Sends the places of fingers to the page: `touchStart`, `touchMove` or `touchEnd`."""
         places = [{"x": x, "y": y, "id": number} for number, (x, y) in enumerate(points)]
         self.ask("Input.dispatchTouchEvent", type=kind, touchPoints=places)
 
-    def tap(self, x: float, y: float) -> None:
-        """Taps with a finger."""
-        self.fingers("touchStart", (x, y))
-        self.fingers("touchEnd")
+    def tap(self, x: float, y: float, count: int = 1) -> None:
+        """Taps with a finger, perhaps several times. However slow the browser is, no tap becomes a long press."""
+        places = [{"x": x, "y": y, "id": 0}]
+        taps = [{"type": "touchStart", "touchPoints": places}, {"type": "touchEnd", "touchPoints": []}]
+        self.ask_together("Input.dispatchTouchEvent", *taps * count)
 
     def tree(self) -> list[tuple[str, str]]:
         """The role and the name of each element that a screen reader reads."""
@@ -186,16 +200,21 @@ class Page:
             f".find((each) => each.textContent.includes({json.dumps(text)}) && each.checkVisibility())"
         )
         self.wait(f"{found} && !{found}.disabled && ({self.rest})")
-        self.click_at(
-            *self.get(
-                f"""(() => {{
+        middle = f"""(() => {{
             const each = {found};
-            each.scrollIntoView({{ block: 'nearest' }});
-            const box = each.getBoundingClientRect();
-            return [box.x + box.width / 2, box.y + box.height / 2];
+            each?.scrollIntoView({{ block: 'nearest' }});
+            const box = each?.getBoundingClientRect();
+            return box ? [box.x + box.width / 2, box.y + box.height / 2] : null;
         }})()"""
-            )
-        )
+        places: list[Any] = [None]
+
+        def is_at_rest() -> bool:
+            """Whether the element is where it was. What comes above it can move it."""
+            places.append(self.get(middle))
+            return places[-1] is not None and places[-1] == places[-2]
+
+        wait_for(f"{selector} does not come to rest", is_at_rest)
+        self.click_at(*places[-1])
 
     def press(self, key: str, modifiers: int = 0) -> None:
         """Presses a key."""

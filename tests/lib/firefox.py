@@ -81,10 +81,14 @@ class Firefox:
         self.ask("session.new", capabilities={})
         self.ask("session.subscribe", events=["log.entryAdded"])
 
-    def ask(self, method: str, **how: Any) -> dict[str, Any]:
-        """Sends a request, and returns the answer."""
+    def tell(self, method: str, **how: Any) -> None:
+        """Sends a request, and does not wait for the answer."""
         self.number += 1
         self.client.say(json.dumps({"id": self.number, "method": method, "params": how}))
+
+    def ask(self, method: str, **how: Any) -> dict[str, Any]:
+        """Sends a request, and returns the answer."""
+        self.tell(method, **how)
         while True:
             told = json.loads(self.client.read_kind(TEXT))
             if told.get("id") == self.number:
@@ -131,14 +135,10 @@ class FirefoxPage(Page):
         """Does actions of the mouse or the keyboard."""
         self.ask("input.performActions", actions=[{**source, "actions": actions}])
 
-    def click_at(self, x: float, y: float) -> None:
-        """Clicks at a point of the window."""
-        self.act(MOUSE, moved(x, y), {"type": "pointerDown", "button": 0}, {"type": "pointerUp", "button": 0})
-
-    def double_click_at(self, x: float, y: float) -> None:
-        """Clicks twice at a point of the window."""
+    def click_at(self, x: float, y: float, count: int = 1) -> None:
+        """Clicks at a point of the window, perhaps several times."""
         press, release = ({"type": f"pointer{word}", "button": 0} for word in ("Down", "Up"))
-        self.act(MOUSE, moved(x, y), press, release, press, release)
+        self.act(MOUSE, moved(x, y), *(press, release) * count)
 
     def drag(self, one: Sequence[float], other: Sequence[float]) -> None:
         """Drags from one point of the window to another."""

@@ -1,6 +1,7 @@
 """Opens the page clients/page/map.html in a browser, and finds places in its window."""
 from __future__ import annotations
 
+import json
 import urllib.parse
 from typing import Protocol, TypeVar
 
@@ -45,6 +46,27 @@ def settled(page: AnyPage) -> AnyPage:
     return page
 
 
+# Waits until the window of the map is where it was for ten frames.
+AT_REST = """new Promise((done) => {
+    const { map } = page.view;
+    let [before, frames] = ['', 0];
+    const look = () => {
+        const now = JSON.stringify([map.getZoom(), map.getCenter(), page.view.size()]);
+        const isMoved = map._animatingZoom || map._panAnim?._inProgress || now !== before;
+        [before, frames] = [now, isMoved ? 0 : frames + 1];
+        if (frames === 10) done();
+        else requestAnimationFrame(look);
+    };
+    look();
+})"""
+
+
+def at_rest(page: AnyPage) -> AnyPage:
+    """Waits until the window of the map does not move any more."""
+    page.get(AT_REST)
+    return page
+
+
 def pause(page: Page) -> None:
     """Waits longer than the two clicks of a double click lie apart."""
     page.get("new Promise((done) => setTimeout(done, DOUBLE_CLICK + 30))")
@@ -60,6 +82,12 @@ def window_point(page: Page, expression: str) -> tuple[float, float]:
     }})()"""
     )
     return x, y
+
+
+def middle_of(page: Page, selector: str) -> tuple[float, float]:
+    """Where the middle of an element of the document is."""
+    box = page.get(f"document.querySelector({json.dumps(selector)}).getBoundingClientRect().toJSON()")
+    return box["x"] + box["width"] / 2, box["y"] + box["height"] / 2
 
 
 def at_node(page: Page, name: str) -> tuple[float, float]:

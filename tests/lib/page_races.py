@@ -96,6 +96,7 @@ class Track:
                 self.chrome.tell("Input.dispatchKeyEvent", session=page.session, **about)
             time.sleep(wait / 1000)
         for page in self.pages:
+            page.wait("page.tools.draft === null")  # nobody waited until the page took the key
             settled(page).wait("page.tools.sent.size === 0")
         count = max(page.get("page.session.room.seq") for page in self.pages)
         for page in self.pages:

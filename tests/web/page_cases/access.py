@@ -3,7 +3,7 @@ from __future__ import annotations
 
 from lib.browser import Page
 from lib.cases import want
-from lib.map_pages import at_node, opened, pause, settled, url_of
+from lib.map_pages import at_node, at_rest, opened, pause, settled, url_of
 from lib.talk import serving
 from page_cases.looking import at, comes, new_names, small_targets
 from page_cases.opening import base_of, browsing, page_case, pages, village
@@ -23,8 +23,8 @@ def fingers() -> None:
             anna.fingers("touchMove", (150 - 15 * step, 400), (240 + 15 * step, 400))
         anna.fingers("touchEnd")
         anna.wait(f"page.view.zoom > {zoom + 0.4}")
-        anna.get("new Promise((done) => setTimeout(done, 500))")  # until the zoom comes to rest
-        anna.get("page.fit(), new Promise((done) => setTimeout(done, 100))")
+        at_rest(anna).get("page.fit()")
+        at_rest(anna)
         anna.click("#point")
         anna.fingers("touchStart", (150, 500))
         anna.fingers("touchStart", (150, 500), (200, 500))

@@ -25,7 +25,7 @@ def a_silent_connection() -> None:
         proxy.hold = lambda data: b"" if silent else data  # before the page connects
         anna = opened(chrome, url_of(files, proxy.url, "anna"))
         want(anna.get("Session.heartbeat"), 30_000)
-        anna.get("Session.heartbeat = 6000")
+        anna.get("Session.heartbeat = 12_000")
         connect(anna)
         want(anna.get("$('saved').textContent"), "All saved")
         silent.append(True)

@@ -5,7 +5,7 @@ import math
 
 from lib.browser import Page
 from lib.cases import want
-from lib.map_pages import at_node, pause, settled, window_point
+from lib.map_pages import at_node, at_rest, pause, settled, window_point
 from page_cases.looking import at, comes, new_names, row
 from page_cases.opening import Row, a_node, page_case, pages
 from page_cases.ways import a_way, press_for, rows_of
@@ -105,8 +105,7 @@ def a_dragged_house() -> None:
         before = rows_of(anna)
         x, y = at(anna, 47.60005, 8.20005)
         anna.drag((x, y), (x + 40, y))
-        anna.get("new Promise((done) => setTimeout(done, 400))")
-        want((rows_of(anna), anna.get("page.session.room.seq")), (before, 0))
+        want((rows_of(at_rest(anna)), anna.get("page.session.room.seq")), (before, 0))
         x, y = at(anna, 47.60005, 8.20005)
         anna.click_at(x, y)
         want(anna.get("page.selected"), ["w1"])

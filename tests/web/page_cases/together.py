@@ -2,7 +2,7 @@
 from __future__ import annotations
 
 import contextlib
-from collections.abc import Iterator, Sequence
+from collections.abc import Iterator
 from typing import Any
 
 from lib.browser import Page
@@ -10,31 +10,51 @@ from lib.cases import check, want
 from lib.fake_rooms import FakeRoom
 from lib.map_pages import at_node, connect, opened, settled, url_of, window_point
 from lib.page_races import races, track
-from lib.proxy import Proxy
-from lib.serving import Session
 from lib.talk import serving
 from page_cases.connections import restarted
 from page_cases.looking import at, at_once, comes, draw, new_names, not_done, press_button, row
-from page_cases.opening import Row, a_node, base_of, browsing, linked, page_case, pages, village
+from page_cases.opening import Link, a_node, base_of, browsing, linked, page_case, pages, village
 
-# How late a message is on bob's link, in seconds: longer than a test needs to do something in both pages.
-SLOW = 0.5
+class SideBySide:
+    """A room with a small map, a session of it, and the pages of two mappers. A test holds up what the server sends to
+    bob, so that bob does not see what anna does."""
+
+    def __init__(self, link: Link, anna: Page, bob: Page) -> None:
+        self.link, self.zoe, self.anna, self.bob = link, link.other, anna, bob
+
+    @contextlib.contextmanager
+    def unseen(self) -> Iterator[None]:
+        """Until the block ends, bob's page gets nothing. What anna has done by then is in the room, and what bob does
+        comes to the room later."""
+        for page in (self.anna, self.bob):
+            page.wait("page.session.unsaved === 0 && page.session.room.pending === 0")
+        self.link.hold_up()
+        yield
+        self.link.may_pass.set()
+
+    def in_turn(self, annas: str, bobs: str) -> None:
+        """Does something in anna's page and then in bob's, before anything of hers can come to him."""
+        with self.unseen():
+            at_once(self.anna, annas)
+            settled(self.anna)
+            at_once(self.bob, bobs)
 
 
 @contextlib.contextmanager
-def side_by_side(delay: float = SLOW, rows: Sequence[Row] | None = None) -> Iterator[tuple[Session, Page, Page]]:
-    """A server with a small map, a session of it, and the pages of two mappers in windows of their own. Each message of
-    bob's link is late, so that what anna does comes to the room first."""
+def side_by_side() -> Iterator[SideBySide]:
+    """The pages of two mappers, each in a window of its own."""
     with contextlib.ExitStack() as kept:
-        server = kept.enter_context(serving(workers=6, sessions=90, base=base_of(rows or village())))
+        server = kept.enter_context(serving(workers=6, sessions=90, base=base_of(village())))
         files, chrome = kept.enter_context(browsing())
-        shown = []
-        for name, late in (("anna", 0.0), ("bob", delay)):
-            link = kept.enter_context(Proxy(server.port, delay=late))
-            shown.append(connect(opened(chrome, url_of(files, link.url, name), 1000, 700, is_apart=True)))
-        anna, bob = shown
-        yield server.session("zoe"), anna, bob
-        for page in shown:
+        link = Link(server)
+        kept.enter_context(link.proxy)
+        kept.callback(link.may_pass.set)
+        anna, bob = (
+            connect(opened(chrome, url_of(files, address, name), 1000, 700, is_apart=True))
+            for name, address in (("anna", server.port), ("bob", link.proxy.url))
+        )
+        yield SideBySide(link, anna, bob)
+        for page in (anna, bob):
             page.end()
 
 
@@ -43,14 +63,6 @@ def fill_tag(page: Page, el: str, key: str, value: str) -> None:
     page.get(f"page.select('{el}')")
     page.fill("#selected .tag:last-child input", key)
     page.fill("#selected .tag:last-child input:nth-child(2)", value)
-
-
-def in_turn(one: tuple[Page, str], other: tuple[Page, str]) -> None:
-    """Does something in one page and then in another, before anything of it can come to either."""
-    for page, _ in (one, other):
-        page.wait("page.session.unsaved === 0 && page.session.room.pending === 0")
-    for page, expression in (one, other):
-        at_once(page, expression)
 
 
 def question(page: Page) -> list[Any]:
@@ -91,10 +103,11 @@ def races_of_two_pages() -> None:
 @page_case
 def different_keys_at_once() -> None:
     """Two mappers who give one street different tags at the same time set both, and are not asked."""
-    with side_by_side() as (_, anna, bob):
+    with side_by_side() as both:
+        anna, bob = both.anna, both.bob
         for page, key, value in ((anna, "surface", "asphalt"), (bob, "lit", "yes")):
             fill_tag(page, "w3", key, value)
-        in_turn((anna, SAVE), (bob, SAVE))
+        both.in_turn(SAVE, SAVE)
         tags = {"highway": "residential", "lit": "yes", "name": "Mill Lane", "surface": "asphalt"}
         for page in (anna, bob):
             comes(settled(page), "w3", "tags", tags)
@@ -105,11 +118,12 @@ def different_keys_at_once() -> None:
 def one_key_at_once() -> None:
     """Two mappers who give one street the same tag at the same time: the second sees both values, and chooses the one
     or the other. If both typed the same value, nobody is asked."""
-    with side_by_side() as (_, anna, bob):
+    with side_by_side() as both:
+        anna, bob = both.anna, both.bob
         fill_tag(anna, "w3", "surface", "asphalt")
         fill_tag(bob, "w3", "surface", "gravel")
         fill_tag(bob, "w3", "lit", "yes")
-        in_turn((anna, SAVE), (bob, SAVE))
+        both.in_turn(SAVE, SAVE)
         bob.wait("!$('question').hidden")
         what = "“surface” of Mill Lane, street w3"
         want(question(bob), [f"anna {BOTH}", [what, "Yours: gravel", "anna’s: asphalt"]])
@@ -121,14 +135,14 @@ def one_key_at_once() -> None:
         for page, value in ((anna, "paved"), (bob, "sand")):
             page.get("page.select('w3')")
             page.fill("#selected [aria-label='Value of surface']", value)
-        in_turn((anna, SAVE), (bob, SAVE))
+        both.in_turn(SAVE, SAVE)
         bob.wait("!$('question').hidden")
         answer(bob, "Yours: sand")
         for page in (anna, bob):
             comes(settled(page), "w3", "tags.surface", "sand")
         for page in (anna, bob):
             page.fill("#selected [aria-label='Value of surface']", "ground")
-        in_turn((anna, SAVE), (bob, SAVE))
+        both.in_turn(SAVE, SAVE)
         for page in (anna, bob):
             comes(settled(page), "w3", "tags.surface", "ground")
         want((asked(anna), asked(bob)), (0, 2))
@@ -139,7 +153,8 @@ def a_key_that_changes_while_it_is_typed() -> None:
     """A field that somebody else changes while a mapper types in it says so, with the name and the value. So does the
     line of a new tag, and the field of a role. What is typed stays, and the mapper chooses when it is saved. If the
     mapper leaves it, the field follows the map."""
-    with side_by_side(0) as (zoe, anna, bob):
+    with side_by_side() as both:
+        zoe, anna, bob = both.zoe, both.anna, both.bob
         bob.get("page.select('w3')")
         bob.fill("#selected [aria-label='Value of name']", "Millers Lane")
         fill_tag(bob, "w3", "surface", "gravel")
@@ -181,7 +196,8 @@ def a_key_that_changes_while_it_is_typed() -> None:
 def a_node_that_two_drag() -> None:
     """If two mappers drag one node at the same time, the second sees how far each moved it, and chooses. The node goes
     to where the mapper dragged it, or stays. A drag of a way and a drag of one of its nodes are both done."""
-    with side_by_side() as (_, anna, bob):
+    with side_by_side() as both:
+        anna, bob = both.anna, both.bob
         for page in (anna, bob):
             page.get("page.select('n4')")
 
@@ -217,7 +233,7 @@ def a_node_that_two_drag() -> None:
         before = {name: row(bob, name) for name in ("n9", "n10")}
         anna.get("page.select('n9')")
         bob.get("page.select('w3')")
-        in_turn((anna, "page.tools.nudge([10, 0], 1)"), (bob, "page.tools.nudge([0, 10], 1)"))
+        both.in_turn("page.tools.nudge([10, 0], 1)", "page.tools.nudge([0, 10], 1)")
         for page in (anna, bob):
             settled(page).wait("page.session.room.seq === 5")
         after = {name: row(bob, name) for name in ("n9", "n10")}
@@ -309,16 +325,19 @@ def a_street_that_changes_before_a_line_is_finished() -> None:
 @page_case
 def a_handle_that_two_drag() -> None:
     """Two mappers drag a corner out of one segment at the same time: the street gets both corners."""
-    with side_by_side() as (_, anna, bob):
+    with side_by_side() as both:
+        anna, bob = both.anna, both.bob
         for page in (anna, bob):
             page.get("page.select('w3'), page.view.show(page.shapes.boxOf('w3'))")
         places = [window_point(page, "page.tools.middles()[0]") for page in (anna, bob)]
         (left, top), (x, y) = places
-        bob.mouse("mousePressed", x, y)
-        bob.mouse("mouseMoved", x - 20, y, buttons=1)
-        anna.drag((left, top), (left + 40, top))
-        bob.mouse("mouseMoved", x - 40, y, buttons=1)
-        bob.mouse("mouseReleased", x - 40, y)
+        with both.unseen():
+            bob.mouse("mousePressed", x, y)
+            bob.mouse("mouseMoved", x - 20, y, buttons=1)
+            anna.drag((left, top), (left + 40, top))
+            settled(anna)
+            bob.mouse("mouseMoved", x - 40, y, buttons=1)
+            bob.mouse("mouseReleased", x - 40, y)
         for page in (anna, bob):
             settled(page).wait("page.session.room.seq === 2")
             want((len(row(page, "w3")["nodes"]), asked(page)), (4, 0))
@@ -328,22 +347,23 @@ def a_handle_that_two_drag() -> None:
 def what_somebody_changed_and_another_deletes() -> None:
     """Whoever deletes what somebody else changed at the same time is asked. A way that two mappers turn at the same
     time is turned once."""
-    with side_by_side() as (_, anna, bob):
+    with side_by_side() as both:
+        anna, bob = both.anna, both.bob
         for page in (anna, bob):
             page.get("page.select('w2')")
-        in_turn((anna, "page.tools.nudge([3, 0], 1)"), (bob, "page.deleteSelected()"))
+        both.in_turn("page.tools.nudge([3, 0], 1)", "page.deleteSelected()")
         settled(anna)
         settled(bob).wait("!page.elements.has('w2')")  # its corners moved, and not itself
         want(asked(bob), 0)
         fill_tag(anna, "n4", "height", "8")
         bob.get("page.select('n4')")
-        in_turn((anna, SAVE), (bob, "page.deleteSelected()"))
+        both.in_turn(SAVE, "page.deleteSelected()")
         bob.wait("!$('question').hidden")
         want(question(bob), [f"anna {BOTH}", ["tree n4", "Yours: delete it", "anna’s: changed the tags of it"]])
         answer(bob, "anna’s")
         settled(bob).wait_text("#said", "It stays as the other mapper made it.")
         want(row(bob, "n4")["tags"]["height"], "8")
-        in_turn((anna, "page.reverse('w1')"), (bob, "page.reverse('w1')"))
+        both.in_turn("page.reverse('w1')", "page.reverse('w1')")
         for page in (anna, bob):
             comes(settled(page), "w1", "nodes", [3, 2, 1])
         bob.wait_text("#said", "w1 was turned meanwhile, so it runs as you wanted.")

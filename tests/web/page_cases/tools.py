@@ -5,7 +5,7 @@ import math
 
 from lib.browser import Page
 from lib.cases import TOP, want
-from lib.map_pages import at_node, connect, opened, settled, url_of
+from lib.map_pages import at_node, at_rest, connect, opened, settled, url_of
 from lib.programs import run
 from lib.talk import serving
 from page_cases.looking import at, comes, row
@@ -160,23 +160,21 @@ def the_window() -> None:
         x, y = at_node(anna, "n2")
         zoom = anna.get("page.view.zoom")
         anna.mouse("mouseWheel", x, y, deltaX=0, deltaY=-240, button="none")
-        anna.wait(f"page.view.zoom > {zoom} && !page.view.map._animatingZoom")
-        anna.get("new Promise((done) => setTimeout(done, 400))")
-        want(math.dist(at_node(anna, "n2"), (x, y)) < 3, True)
+        anna.wait(f"page.view.zoom > {zoom}")
+        want(math.dist(at_node(at_rest(anna), "n2"), (x, y)) < 3, True)
         x, y = at_node(anna, "n2")
         anna.drag((x + 30, y + 60), (x + 80, y + 40))
-        anna.get("new Promise((done) => setTimeout(done, 400))")
-        anna.click_at(*at_node(anna, "n2"))
+        anna.click_at(*at_node(at_rest(anna), "n2"))
         anna.wait_text("#selected-title", "n2")
         anna.click("#fit")
         anna.wait(f"page.view.zoom === {zoom}")
-        x, y = at_node(anna, "n2")
+        x, y = at_node(at_rest(anna), "n2")
         anna.double_click_at(x + 30, y + 60)
-        anna.wait(f"page.view.zoom > {zoom} && !page.view.map._animatingZoom")
-        want(math.dist(at_node(anna, "n2"), (x - 30, y - 60)) < 3, True)
+        anna.wait(f"page.view.zoom > {zoom}")
+        want(math.dist(at_node(at_rest(anna), "n2"), (x - 30, y - 60)) < 3, True)
         anna.click("#fit")
-        anna.wait(f"page.view.zoom === {zoom} && !page.view.map._animatingZoom")
-        anna.click_at(*at(anna, 47.60072, 8.20115))
+        anna.wait(f"page.view.zoom === {zoom}")
+        at_rest(anna).click_at(*at(anna, 47.60072, 8.20115))
         anna.wait_text("#selected-title", "building w2")
         anna.mouse("mouseMoved", *at_node(anna, "n4"), button="none")
         anna.wait_text("#under", "tree n4")

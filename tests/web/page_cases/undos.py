@@ -4,7 +4,7 @@ from __future__ import annotations
 import urllib.parse
 
 from lib.cases import want
-from lib.map_pages import at_node, connect, opened, settled, url_of
+from lib.map_pages import at_node, connect, middle_of, opened, settled, url_of
 from lib.talk import serving
 from page_cases.looking import at, at_once, close_not_done, comes, draw, draw_unanswered, new_names, not_done, row
 from page_cases.looking import tagged
@@ -151,6 +151,28 @@ def quick_undos() -> None:
 
 
 @page_case
+def a_click_while_news_come() -> None:
+    """A button in a list takes a click also if the list changes while the button is down. What came meanwhile is shown
+    once it is up."""
+    with pages("anna") as (_, zoe, anna):
+        zoe.ask({"id": 2, "do": "move", "els": ["w2"], "dlat": 100, "dlon": 0})
+        anna.get(tagged("7"))
+        settled(anna).wait_text("#undos", "2: tagged 7")
+        place = middle_of(anna, "#undos button")
+        anna.mouse("mousePressed", *place)
+        for number in range(3, 9):
+            zoe.ask({"id": number, "do": "retag", "el": "w3", "tags": {"lit": str(number)}})
+        anna.get("page.session.askUndos()")
+        anna.wait("page.session.room.seq === 8")
+        anna.get("new Promise((done) => setTimeout(done, 200))")
+        want(anna.get("$('changes').textContent.includes('8')"), False)
+        want(middle_of(anna, "#undos button"), place)
+        anna.mouse("mouseReleased", *place)
+        anna.wait_text("#said", "Undone: tagged 7.")
+        anna.wait("$('changes').textContent.includes('8')")
+
+
+@page_case
 def changes_of_an_earlier_visit() -> None:
     """After a reload, the last changes of all are still listed, in words: a way of which all nodes moved was moved."""
     with pages("anna") as (_, zoe, anna):
@@ -215,7 +237,8 @@ def what_was_made_before() -> None:
 
 @page_case
 def people() -> None:
-    """Who changed what and where can be gone to; a link fills in room and address; the last room is remembered."""
+    """Who changed what and where can be gone to; a link fills in room and address; the last room in which the mapper
+    saved something is remembered."""
     with pages("anna", tiles="http://127.0.0.1:9/{z}/{x}/{y}.png", credit="test") as (server, zoe, anna):
         zoe.ask({"id": 4, "do": "create", "el": "n99", "lat": "47.9", "lon": "8.9", "tags": {"natural": "tree"}})
         anna.wait_text("#people", "zoe made tree n99")
@@ -234,7 +257,9 @@ def people() -> None:
                 "credit": "test",
             },
         )
-        anna.get("location.href = location.href.split('?')[0]")
+        want(anna.get("localStorage.getItem('maproom last')"), None)
+        anna.get(tagged("7"))
+        settled(anna).get("location.href = location.href.split('?')[0]")
         anna.wait("typeof page !== 'undefined' && page.background && !page.session")
         want(
             anna.get("[$('address').value, $('room').value, $('name').value]"),

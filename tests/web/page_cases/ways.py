@@ -307,8 +307,7 @@ def a_double_click_adds_a_node() -> None:
         anna.wait("page.view.size().y === $('map').clientHeight")
         before = anna.get(window)
         x, y = at(anna, 47.5998, 8.2005)
-        for _ in range(2):
-            anna.tap(x, y)
+        anna.tap(x, y, count=2)
         comes(anna, "w3", "nodes", [9, -2, 10])
         want(anna.get(window), before)
 
