@@ -125,7 +125,10 @@ class Warnings {
     if (this.whole) this.slices.push(performance.now() - began);
     if (!isDone) {
       this.showProgress();
-      this.timer = setTimeout(() => this.work(steps));
+      this.timer = setTimeout(() => {
+        this.timer = undefined; // otherwise nothing would be checked after these steps
+        this.work(steps);
+      });
     } else if (this.waiting.size > 0) {
       this.soon();
     }

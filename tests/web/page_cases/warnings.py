@@ -106,6 +106,35 @@ def bridges_and_others() -> None:
         wait_listed(anna)
 
 
+# Has the check of each element take longer than the page works at a time, as on a slow machine.
+SLOWLY = """(() => {
+    const { of } = Checks.prototype;
+    Checks.prototype.of = function (el) {
+        const end = performance.now() + SLICE + 1;
+        while (performance.now() < end);
+        return of.call(this, el);
+    };
+})()"""
+
+
+@page_case
+def checks_that_take_long() -> None:
+    """After a check that took several pieces of work, and during one, what others repair still leaves the list."""
+    with pages("anna") as (_, zoe, anna):
+        anna.get(SLOWLY)
+        anna.click("#check-map")
+        wait_listed(anna, "path w1 crosses Mill Lane, street w3 without a node.")
+        want(anna.get("page.warnings.slices.length > 3"), True)
+        for number, tags in ((2, {"bridge": "yes"}), (3, {"bridge": None})):
+            zoe.ask({"id": number, "do": "retag", "el": "w1", "tags": tags})
+            anna.wait(f"page.session.room.seq === {number - 1}")
+            wait_listed(anna)
+        anna.click("#check-map")
+        zoe.ask({"id": 4, "do": "retag", "el": "w3", "tags": {"tunnel": "yes"}})
+        anna.wait("page.session.room.seq === 3 && !page.warnings.whole")
+        wait_listed(anna)
+
+
 @page_case
 def an_end_near_a_street() -> None:
     """An end four metres from a street is a warning, and its repair joins it. A dead end with `noexit` is none."""
