@@ -350,9 +350,8 @@ class OsmApi:
 class Watcher:
     """A mapper who makes small calls again and again while somebody else keeps the program busy, for a block.
 
-    `longest` has the time of the slowest call of each kind. The time for which the test and `processes` waited for a
-    processor does not count, because other programs may have taken it. The map needs a node n3 at 7 degrees north and
-    8 degrees east."""
+    `longest` has the time of the slowest call of each kind, as a Stopwatch of the test and of `processes` takes it. The
+    map needs a node n3 at 7 degrees north and 8 degrees east."""
 
     PATHS = ("/api/capabilities", "/api/0.6/node/3", "/api/0.6/map?bbox=7,6,9,8", "/")
 

@@ -11,7 +11,7 @@ import sys
 import threading
 import time
 from collections.abc import Callable, Sequence
-from typing import IO, Union
+from typing import IO, NamedTuple, Union
 
 from .cases import given
 from .preloaded import library
@@ -93,31 +93,50 @@ def measure(program: str, script: str, replies: str, *options: str) -> tuple[flo
     return taken, max(peaks)
 
 
+class Times(NamedTuple):
+    """For how many nanoseconds a thread ran, and for how many it was ready to run and did not run."""
+
+    ran: int = 0
+    waited: int = 0
+
+
 class Stopwatch:
-    """Takes time from its start on, without the time for which the threads of these processes were ready to run, and
-    the machine had no processor for them. A kernel that does not measure this counts all time."""
+    """Takes time from its start on, and leaves out what other programs took of the machine.
+
+    That is the time for which threads of these processes were ready to run, and no processor was free. Several threads
+    can wait at the same time, so at least the processor time of the process that computed most counts. A kernel that
+    does not measure this counts all time."""
 
     def __init__(self, *processes: int) -> None:
-        self._processes = processes
-        self._waited = self._waits()
+        self._processes = [*processes]
+        self._before = self._times()
         self._began = time.monotonic()
+
+    def add(self, process: int) -> None:
+        """Adds a process that was started after the stopwatch."""
+        self._processes.append(process)
 
     @property
     def seconds(self) -> float:
         """The time since the start."""
-        taken = time.monotonic() - self._began
-        waited = sum(wait - self._waited.get(thread, 0) for thread, wait in self._waits().items())
-        return max(0, taken - waited / 1e9)
+        taken, waited = time.monotonic() - self._began, 0
+        ran = dict.fromkeys(self._processes, 0)
+        for (process, thread), times in self._times().items():
+            before = self._before.get((process, thread), Times())
+            ran[process] += times.ran - before.ran
+            waited += times.waited - before.waited
+        return min(taken, max(taken - waited / 1e9, max(ran.values()) / 1e9))
 
-    def _waits(self) -> dict[str, int]:
-        """For how many nanoseconds each thread was ready to run and did not run."""
-        waits = {}
+    def _times(self) -> dict[tuple[int, str], Times]:
+        """The times of each thread, by its process and its file."""
+        found = {}
         for process in self._processes:
             for path in glob.glob(f"/proc/{process}/task/*/schedstat"):
                 with contextlib.suppress(OSError):  # the thread has ended
                     with open(path, encoding="ascii") as file:
-                        waits[path] = int(file.read().split()[1])
-        return waits
+                        ran, waited, _ = file.read().split()
+                        found[process, path] = Times(int(ran), int(waited))
+        return found
 
 
 def memory_of(process: int, values: Sequence[str] = ("VmRSS", "VmHWM")) -> tuple[float, ...]:
