@@ -176,7 +176,10 @@ class Page:
     def tap(self, x: float, y: float, count: int = 1) -> None:
         """Taps with a finger, perhaps several times. However slow the browser is, no tap becomes a long press."""
         places = [{"x": x, "y": y, "id": 0}]
-        taps = [{"type": "touchStart", "touchPoints": places}, {"type": "touchEnd", "touchPoints": []}]
+        taps: list[dict[str, Any]] = [
+            {"type": "touchStart", "touchPoints": places},
+            {"type": "touchEnd", "touchPoints": []},
+        ]
         self.ask_together("Input.dispatchTouchEvent", *taps * count)
 
     def tree(self) -> list[tuple[str, str]]:

@@ -15,6 +15,7 @@ from page_cases.connections import restarted
 from page_cases.looking import at, at_once, comes, draw, new_names, not_done, press_button, row
 from page_cases.opening import Link, a_node, base_of, browsing, linked, page_case, pages, village
 
+
 class SideBySide:
     """A room with a small map, a session of it, and the pages of two mappers. A test holds up what the server sends to
     bob, so that bob does not see what anna does."""
@@ -49,9 +50,10 @@ def side_by_side() -> Iterator[SideBySide]:
         link = Link(server)
         kept.enter_context(link.proxy)
         kept.callback(link.may_pass.set)
+        addresses: dict[str, str | int] = {"anna": server.port, "bob": link.proxy.url}
         anna, bob = (
             connect(opened(chrome, url_of(files, address, name), 1000, 700, is_apart=True))
-            for name, address in (("anna", server.port), ("bob", link.proxy.url))
+            for name, address in addresses.items()
         )
         yield SideBySide(link, anna, bob)
         for page in (anna, bob):
