@@ -23,12 +23,17 @@ function listen(page) {
     "undo-possible": () => page.undoLastPossible(),
     "close-not-done": () => page.closeNotDone(), "check-map": () => page.warnings.checkAll(),
     "open-sheet": () => openSheet(true), "close-sheet": () => openSheet(false),
+    locate: () => page.locator.toggle(), help: () => Shortcuts.toggle(), "close-shortcuts": () => Shortcuts.close(),
   };
   for (const [id, work] of Object.entries(clicks)) $(/** @type {ButtonId} */(id)).onclick = work;
   $("find").oninput = () => {
     panels.mostFound = MOST_SHOWN;
     panels.showFound();
   };
+  $("find").onkeydown = (event) => {
+    if (event.key === "Enter" && panels.firstFound) page.show(panels.firstFound);
+  };
+  page.files.listen();
   listenToInputs(page);
   listenToKeys(page);
   addEventListener("beforeunload", (event) => {
@@ -39,6 +44,13 @@ function listen(page) {
   document.addEventListener("pointerdown", (event) => isIn(event, "#menu") || page.closeMenu(), true);
 }
 
+/** Lets the mapper type what is to be found, on a small screen in the sheet of details. */
+function focusFind() {
+  if (getComputedStyle($("side")).visibility === "hidden") openSheet(true);
+  $("find").focus();
+  $("find").select();
+}
+
 /** On a small screen: opens or closes the sheet of details. What is selected stays in sight. */
 function openSheet(isOpen = !document.body.classList.contains("open")) {
   document.body.classList.toggle("open", isOpen);
@@ -46,7 +58,10 @@ function openSheet(isOpen = !document.body.classList.contains("open")) {
   if (isOpen) $("side").scrollTop = 0;
   const box = emptyBox();
   for (const el of isOpen ? page.selected : []) stretchBy(box, page.shapes.boxOf(el));
-  page.view.lift(box, $("frame").getBoundingClientRect().bottom - (innerHeight - $("side").offsetHeight));
+  const { offsetWidth: width, offsetHeight: height } = $("side");
+  const isBeside = width < innerWidth; // on a phone that lies on its side
+  page.view.uncover(box, isBeside ? width : 0, isBeside ? 0 : $("frame").getBoundingClientRect().bottom - innerHeight
+    + height);
 }
 
 /**
@@ -74,6 +89,10 @@ function listenToKeys(page) {
     const isTyping = isIn(event, "input:not([type=checkbox]), textarea, select");
     if (event.key === "Escape" && !$("menu").hidden) {
       page.closeMenu();
+    } else if (event.key === "Escape" && !$("shortcuts").hidden) {
+      Shortcuts.close();
+    } else if (event.key === "Escape" && !$("photo").hidden) {
+      page.files.closePhoto();
     } else if (event.ctrlKey || event.metaKey) {
       if (!isTyping) undoKeys(page, event);
     } else if (isTyping && event.key === "Escape") {

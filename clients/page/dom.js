@@ -3,8 +3,8 @@
 
 /**
  * The elements of map.html by their ids.
- * @typedef {Record<"address" | "room" | "name" | "joining" | "find" | "tiles-url" | "tiles-credit" | "tiles-fade",
- *     HTMLInputElement>
+ * @typedef {Record<"address" | "room" | "name" | "joining" | "find" | "file", HTMLInputElement>
+ *   & Record<"tiles-url" | "tiles-credit" | "tiles-fade", HTMLInputElement>
  *   & Record<"preset" | "tiles-choice" | "areas-shown", HTMLSelectElement>
  *   & Record<"hello" | "tiles", HTMLFormElement>
  *   & Record<ButtonId, HTMLButtonElement>
@@ -17,11 +17,13 @@
  *   & Record<"changes-title" | "changes" | "people-title" | "people" | "figures" | "keys" | "values", HTMLElement>
  *   & Record<"warnings-title" | "warnings-count" | "warnings", HTMLElement>
  *   & Record<"relations-title" | "relations" | "tiles-title" | "tiles-own" | "tiles-more", HTMLElement>
- *   & Record<"tiles-offset", HTMLElement>} PageElements
+ *   & Record<"tiles-offset" | "shortcuts" | "shortcuts-list" | "files" | "photo" | "photo-title", HTMLElement>
+ *   & Record<"photo-canvas", HTMLCanvasElement>} PageElements
  *
  * @typedef {"connect" | "share" | "leave" | ToolId | "undo" | "redo" | "closer" | "farther" | "fit" | "sheet"
  *   | "tools" | "finish" | "back" | "cancel" | "show" | "undo-possible" | "hush" | "close-not-done" | "open-sheet"
  *   | "close-sheet" | "check-map" | "tiles-west" | "tiles-north" | "tiles-south" | "tiles-east" | "tiles-home"
+ *   | "locate" | "help" | "close-shortcuts" | "open-files" | "close-photo"
  * } ButtonId
  *
  * @typedef {"select" | "point" | "line" | "area"} ToolId
@@ -65,12 +67,15 @@ function make(tag, { label, role, ...properties } = {}, ...children) {
 const isIn = ({ target }, selector) => target instanceof Element && target.closest(selector) !== null;
 
 /**
+ * A button, perhaps with a sign in front of its text.
  * @param {string} text
  * @param {() => void} onclick
- * @param {Properties<"button">} [properties]
+ * @param {Properties<"button"> & { sign?: SignName }} about
  */
-function button(text, onclick, properties = {}) {
-  return make("button", { type: "button", textContent: text, onclick, ...properties });
+function button(text, onclick, { sign, ...properties } = {}) {
+  const made = make("button", { type: "button", textContent: text, onclick, ...properties });
+  if (sign) made.prepend(signOf(sign));
+  return made;
 }
 
 /**

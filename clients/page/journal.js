@@ -2,11 +2,38 @@
 "use strict";
 
 const NONE_CAME = "No change came while you were connected.";
+const NOBODY = "Whoever changes something appears here. The server does not say who only looks.";
+const FIRST = 10; // how many lines a list has before the mapper asks for more
+const MORE = 40;
 
 class Journal {
   /** @param {Page} page */
   constructor(page) {
     this.page = page;
+    this.most = { undos: FIRST, changes: FIRST, people: FIRST }; // lines of each list
+  }
+
+  /**
+   * Shows the first lines of a list, with a button for more.
+   * @param {"undos" | "changes" | "people"} name
+   * @param {HTMLElement[]} items
+   * @param {string} none what is said if there are none
+   * @param {() => void} again
+   */
+  fill(name, items, none, again) {
+    const rest = items.length - this.most[name];
+    const more = button(`Show ${Math.min(rest, MORE)} more`, () => {
+      this.most[name] += MORE;
+      again();
+    });
+    $(name).replaceChildren(...items.slice(0, this.most[name]), ...(rest > 0 ? [make("li", {}, more)] : []),
+      ...(items.length ? [] : [soft("li", none)]));
+  }
+
+  /** What others did, the latest first. */
+  othersEntries() {
+    const { session } = this.page;
+    return [...session?.entries.values() ?? []].filter(({ by }) => by !== session?.name).reverse();
   }
 
   showAll() {
@@ -22,15 +49,9 @@ class Journal {
   putUndos() {
     const { session } = this.page;
     const { undos, redos } = session && this.page.isInside ? session : { undos: [], redos: [] };
-    /**
-     * @param {Gesture[]} gestures
-     * @param {number} most
-     */
-    const lines = (gestures, most) => this.runsOf(gestures).slice(-most).reverse();
-    const items = [...lines(undos, 100).map((run) => this.undoItem(run)),
-    ...lines(redos, 20).map((run, index) => this.redoItem(run, index === 0))];
-    $("undos").replaceChildren(...items);
-    if (!undos.length && !redos.length) $("undos").append(soft("li", "Nothing yet."));
+    const items = [...this.runsOf(undos).reverse().map((run) => this.undoItem(run)),
+      ...this.runsOf(redos).reverse().map((run, index) => this.redoItem(run, index === 0))];
+    this.fill("undos", items, "Nothing yet.", () => this.putUndos());
     const [last, taken] = [undos.at(-1), redos.at(-1)];
     /**
      * @param {Gesture | undefined} seqs
@@ -71,8 +92,10 @@ class Journal {
     const text = run.length > 1 ? many : `${last[0]}: ${session.textOf(last[0])}`;
     const what = run.length > 1 ? `Undo the last of them, entry ${last[0]}` : `Undo entry ${text}`;
     const word = run.length > 1 ? `Undo ${last[0]}` : "Undo";
+    const entry = session.entries.get(last[0]);
     return make("li", { className: isBlocked ? "blocks" : "" }, make("span", { textContent: text }),
-      button(word, () => this.page.undo(last), { label: what, title: what }));
+      button(word, () => this.page.undo(last), { label: what, title: what, sign: "undo" }),
+      ...(run.length === 1 && entry ? this.goTo(entry) : []));
   }
 
   /**
@@ -84,18 +107,25 @@ class Journal {
     const [seq] = lastOf(run);
     const many = `${run.length} undone entries, made before you came`;
     const text = run.length > 1 ? many : `${seq}, undone: ${this.page.joinedSession.textOf(seq)}`;
-    const redo = isLast ? [button("Redo", () => this.page.redo(), { label: `Redo entry ${seq}` })] : [];
+    const redo = isLast ? [button("Redo", () => this.page.redo(), { label: `Redo entry ${seq}`, sign: "redo" })] : [];
     return make("li", { className: "soft" }, make("span", { textContent: text }), ...redo);
+  }
+
+  /**
+   * A button that shows where an entry was, if that is known.
+   * @param {Entry} entry
+   * @param {string} label
+   */
+  goTo(entry, label = `Go to entry ${entry.seq} on the map`) {
+    return entry.rows.length ? [button("Go", () => this.page.showEntry(entry), { label, sign: "go" })] : [];
   }
 
   /** @param {Entry} entry */
   changeItem(entry) {
-    const { page } = this;
-    const session = page.joinedSession;
-    const author = make("b", { textContent: session.subjectOf(entry) });
-    const text = make("span", {}, `${entry.seq} `, author, ` ${session.deed(entry)} `, timeOf(entry.at));
-    const go = button("Go", () => page.showEntry(entry), { label: `Go to entry ${entry.seq} on the map` });
-    const item = make("li", {}, dotOf(entry.by), text, ...(entry.rows.length ? [go] : []));
+    const session = this.page.joinedSession;
+    const author = make("b", { textContent: entry.by });
+    const text = make("span", {}, author, ` ${session.deed(entry)} `, timeOf(entry.at));
+    const item = make("li", {}, dotOf(entry.by), text, ...this.goTo(entry));
     item.classList.toggle("blocks", entry.seq === session.conflict?.with);
     item.dataset.seq = String(entry.seq);
     return item;
@@ -103,13 +133,12 @@ class Journal {
 
   /** @param {Entry} entry */
   showChange(entry) {
+    const { page } = this;
+    if (entry.by === page.joinedSession.name) return;
     const list = $("changes");
-    if (this.page.panels.isPressed || !this.page.joinedSession.entries.has(entry.seq - 1)) {
-      this.showChanges();
-      return;
-    }
-    list.prepend(this.changeItem(entry));
-    while (list.children.length > MOST_SHOWN) list.lastElementChild?.remove();
+    const isFull = list.children.length >= this.most.changes || !list.querySelector("[data-seq]");
+    if (page.panels.isPressed || isFull || !page.joinedSession.entries.has(entry.seq - 1)) this.showChanges();
+    else list.prepend(this.changeItem(entry));
   }
 
   showChanges() {
@@ -117,9 +146,9 @@ class Journal {
   }
 
   putChanges() {
-    const entries = [...(this.page.session?.entries.values() ?? [])].slice(-MOST_SHOWN).reverse();
-    $("changes").replaceChildren(...entries.map((entry) => this.changeItem(entry)));
-    if (!entries.length) $("changes").append(soft("li", this.page.isInside ? "Changes appear here." : NONE_CAME));
+    const none = this.page.isInside ? "Changes of others appear here." : NONE_CAME;
+    const entries = this.othersEntries().slice(0, this.most.changes + 1 + MORE);
+    this.fill("changes", entries.map((entry) => this.changeItem(entry)), none, () => this.putChanges());
   }
 
   showPeople() {
@@ -129,24 +158,16 @@ class Journal {
   putPeople() {
     /** @type {Map<string, Entry>} */
     const latest = new Map();
-    const { session } = this.page;
-    for (const entry of session?.entries.values() ?? []) {
-      latest.delete(entry.by);
-      latest.set(entry.by, entry);
-    }
-    const entries = [...latest.values()].reverse().slice(0, 64);
-    $("people").replaceChildren(...entries.map((entry) => this.personItem(entry)));
-    const none = this.page.isInside ? "Whoever changes something appears here." : NONE_CAME;
-    if (!latest.size) $("people").append(soft("li", none));
+    for (const entry of this.othersEntries()) if (!latest.has(entry.by)) latest.set(entry.by, entry);
+    const items = [...latest.values()].map((entry) => this.personItem(entry));
+    this.fill("people", items, this.page.isInside ? NOBODY : NONE_CAME, () => this.putPeople());
   }
 
   /** @param {Entry} entry */
   personItem(entry) {
-    const session = this.page.joinedSession;
-    const author = make("b", { textContent: session.subjectOf(entry) });
-    const text = make("span", {}, author, ` ${session.deed(entry)} `, timeOf(entry.at));
-    const who = entry.by === session.name ? "you were" : `${entry.by} was`;
-    const go = button("Go", () => this.page.showEntry(entry), { label: `Go to where ${who} last` });
-    return make("li", {}, dotOf(entry.by), text, ...(entry.rows.length ? [go] : []));
+    const { by, at } = entry;
+    const deed = this.page.joinedSession.deed(entry);
+    const text = make("span", {}, make("b", { textContent: by }), ` ${deed} `, timeOf(at));
+    return make("li", {}, dotOf(by), text, ...this.goTo(entry, `Go to where ${by} was last`));
   }
 }

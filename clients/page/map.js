@@ -12,6 +12,8 @@
 //     Questions       what the mapper is asked if somebody else changed the same value
 //     Copies          what the mapper copied
 //     Background      the tiles under the map
+//     LocalFiles      tracks and photos of the mapper's own; Locator shows where the mapper is
+//     Shortcuts       the list of keys
 //
 // Tools and Panels do a gesture by Page.perform. Edits, WayEdits and Shaping make its actions from the map, and Session
 // sends them as one group. What the room answers and reports comes back by Page.takeMap and Page.takeChange, which
@@ -46,6 +48,7 @@ function followLink() {
 }
 
 const page = new Page();
+putSigns();
 fillIn();
 loadLeaflet().then(() => {
   page.makeMap();

@@ -18,6 +18,8 @@ class Overlay {
    */
   paint(context, frame) {
     const { page } = this;
+    page.files.paint(context, frame);
+    page.locator.paint(context, frame);
     this.paintFresh(context, frame);
     if (this.tools.hovered) this.paintElement(context, frame, this.tools.hovered, "rgba(21, 95, 168, .55)", 5);
     for (const el of page.selected) this.paintElement(context, frame, el, "#d6006c", 3, true);
@@ -75,7 +77,10 @@ class Overlay {
     }
     for (const id of way ? new Set(row.nodes) : [idOf(el)]) {
       const at = shapes.positionOf(id);
-      if (at) this.paintDot(context, this.place(at, frame), way ? 3 : 6, colour);
+      if (!at) continue;
+      const house = housePixels(frame, pointBox(at.x, at.y));
+      this.paintDot(context, this.place(at, frame), way ? Math.min(3, house / 6) : Math.max(3, Math.min(6, house / 3)),
+        colour);
     }
     return undefined;
   }
@@ -104,7 +109,7 @@ class Overlay {
     context.fillStyle = "#fff";
     context.fill();
     context.strokeStyle = colour;
-    context.lineWidth = 2.5;
+    context.lineWidth = Math.min(2.5, radius);
     context.stroke();
   }
 

@@ -73,6 +73,8 @@ class Page {
     this.warnings = new Warnings(this);
     this.questions = new Questions(this);
     this.copies = new Copies();
+    this.files = new LocalFiles(this);
+    this.locator = new Locator(this);
     // These are set when Leaflet is there. Nothing can be pressed before.
     /** @type {View} */
     this.view;
@@ -436,7 +438,7 @@ class Page {
     const isOwn = by === session.name;
     const entry = session.entries.get(other);
     const row = this.elements.get(el);
-    const place = entry?.rows.some((each) => each.el === el) ? "" : ` at ${row ? titleOf(row) : el}`;
+    const place = entry?.rows.some((each) => each.el === el) ? "" : ` at ${row ? plainTitleOf(row) : el}`;
     const deed = entry ? session.deed(entry) : "changed something";
     const first = isOwn ? "Undo that first" : `You can undo yours after ${by ?? "they"} undid that`;
     return `Not undone: ${isOwn ? "you" : by ?? "somebody"} later ${deed}${place} (entry ${other}). ${first}, or `

@@ -9,8 +9,9 @@
  * @typedef {{ tag?: TagLine, name?: string, at?: number, localName?: string, start?: number | null,
  *   end?: number | null }} Focus
  *
- * What Find looks through of an element: its tags and its name in small letters, and what kind of place it is.
- * @typedef {{ text: string, name: string, place: string | undefined }} SearchText
+ * What Find looks through of an element: its tags, its name and its address in small letters, and what kind of place
+ * it is.
+ * @typedef {{ text: string, name: string, address: string, place: string | undefined }} SearchText
  */
 
 const MOST_SHOWN = 50;
@@ -20,16 +21,25 @@ const CONNECT = "Connect to a room to see its map, and to draw on it.";
 const TOWNS = ["city", "town", "village"];
 
 /**
- * How early an element is found by a word: towns, then other places, then names, then other tags.
+ * How early an element is found by a word: towns, then other places, then names and addresses, then other tags.
  * @param {string} word
- * @param {string} name
- * @param {string | undefined} place
+ * @param {SearchText} text
  */
-function rankOf(word, name, place) {
-  if (!name.includes(word)) return 5;
+function rankOf(word, { name, address, place }) {
+  if (!name.includes(word) && !address.includes(word)) return 5;
   if (place) return TOWNS.includes(place) ? 0 : 1;
-  if (name === word) return 2;
-  return name.startsWith(word) ? 3 : 4;
+  if (name === word || address === word) return 2;
+  return name.startsWith(word) || address.startsWith(word) ? 3 : 4;
+}
+
+/**
+ * The address in tags, as people write it in most countries: the street, and then the number.
+ * @param {Tags} tags
+ */
+function addressOf(tags) {
+  const number = tags["addr:housenumber"];
+  const street = tags["addr:street"] ?? tags["addr:place"];
+  return number && street ? `${street} ${number}` : "";
 }
 
 class Panels {
@@ -42,6 +52,9 @@ class Panels {
     this.isShowing = false;
     this.isListOpen = false;
     this.mostFound = MOST_SHOWN;
+    this.mostRelations = FIRST;
+    /** @type {string | null} */
+    this.firstFound = null; // which Enter takes
     /** @type {Map<string, Sight>} */
     this.sights = new Map(); // what the mapper saw when they began to type in a field, by its name
     /** @type {Map<string, SearchText> | null} */
@@ -254,20 +267,32 @@ class Panels {
     const els = rows.map(({ el }) => el);
     const isUsed = els.some((el) => page.shapes.parentsOf(el).length > 0);
     const isMovable = els.some((el) => el[0] !== "r");
-    const everywhere = button("Delete everywhere", () => page.deleteSelected(true), { title: "Also out of relations" });
-    const copy = button("Copy", () => page.copySelected(), { title: "To paste it elsewhere, or its tags (Ctrl+C)" });
+    const everywhere = button("Delete everywhere", () => page.deleteSelected(true), {
+      title: "Also out of relations", sign: "remove",
+    });
+    const copy = button("Copy", () => page.copySelected(), {
+      title: "To paste it elsewhere, or its tags (Ctrl+C)", sign: "copy",
+    });
     const tags = Object.keys(page.copies.ownTags()).length > 0;
     const paste = button("Paste tags", () => page.pasteTags(), { title: "The tags that were copied (Ctrl+Shift+V)" });
-    const move = button("Move", () => page.tools.use("move"), { title: "Drag it, or use the arrow keys (M)" });
-    const turn = button("Rotate", () => page.tools.use("rotate"), { title: "Drag it, or use the arrow keys (R)" });
+    const move = button("Move", () => page.tools.use("move"), {
+      title: "Drag it, or use the arrow keys (M)", sign: "move",
+    });
+    const turn = button("Rotate", () => page.tools.use("rotate"), {
+      title: "Drag it, or use the arrow keys (R)", sign: "turn",
+    });
     const isTurnable = isMovable && page.nodesOf(els.filter((el) => el[0] !== "r")).size > 1;
     return line(
-      button("Delete", () => page.deleteSelected(), { title: "Also nodes that nothing else needs (Delete)" }),
+      button("Delete", () => page.deleteSelected(), {
+        title: "Also nodes that nothing else needs (Delete)", sign: "remove",
+      }),
       ...(isUsed ? [everywhere] : []),
       ...(isMovable ? [move, copy] : []),
       ...(isTurnable ? [turn] : []),
       ...(tags ? [paste] : []),
-      button("New relation", () => page.makeRelation(els), { title: "A relation with this as its member" }),
+      button("New relation", () => page.makeRelation(els), {
+        title: "A relation with this as its member", sign: "relation",
+      }),
     );
   }
 
@@ -478,8 +503,13 @@ class Panels {
   putRelations() {
     const { page } = this;
     const names = [...page.shapes.relations].sort((one, other) => idOf(one) - idOf(other));
-    $("relations").replaceChildren(...names.slice(0, 200).map((el) => make("li", {}, this.elementButton(el))),
-      ...(names.length > 200 ? [soft("li", `${names.length - 200} more: use Find.`)] : []),
+    const rest = names.length - this.mostRelations;
+    const more = button(`Show ${Math.min(rest, 200)} more`, () => {
+      this.mostRelations += 200;
+      this.putRelations();
+    });
+    const items = names.slice(0, this.mostRelations).map((el) => make("li", {}, this.elementButton(el)));
+    $("relations").replaceChildren(...items, ...(rest > 0 ? [make("li", {}, more)] : []),
       ...(names.length ? [] : [soft("li", "None.")]));
   }
 
@@ -521,7 +551,8 @@ class Panels {
     if (row) for (const key in row.tags) text += `\n${key}=${row.tags[key]}`;
     if (!row || !text) return;
     const { name = "", place } = row.tags;
-    this.texts.set(el, { text: text.toLowerCase(), name: name.toLowerCase(), place });
+    const address = addressOf(row.tags).toLowerCase();
+    this.texts.set(el, { text: `${text.toLowerCase()}\n${address}`, name: name.toLowerCase(), address, place });
   }
 
   /**
@@ -532,10 +563,7 @@ class Panels {
     const { elements } = this.page;
     /** @type {string[][]} */
     const groups = Array.from({ length: 6 }, () => []);
-    for (const [el, { text, name, place }] of this.searchTexts()) {
-      if (!text.includes(word)) continue;
-      groups[rankOf(word, name, place)].push(el);
-    }
+    for (const [el, text] of this.searchTexts()) if (text.text.includes(word)) groups[rankOf(word, text)].push(el);
     /** @param {string} el */
     const size = (el) => TOWNS.indexOf(elements.get(el)?.tags.place ?? "");
     groups[0].sort((one, other) => size(one) - size(other));
@@ -547,6 +575,7 @@ class Panels {
     const word = $("find").value.trim().toLowerCase();
     const found = word && this.page.session?.room ? this.foundFor(word) : [];
     const shown = found.slice(0, this.mostFound);
+    this.firstFound = found[0] ?? null;
     $("found").replaceChildren(...shown.map((el) => make("li", {}, this.elementButton(el))));
     const rest = found.length - shown.length;
     const count = rest ? `${shown.length} of ${found.length} found` : `${found.length} found`;

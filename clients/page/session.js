@@ -403,14 +403,6 @@ class Session extends EventTarget {
   }
 
   /**
-   * Who made an entry, for the start of a sentence.
-   * @param {Entry} entry
-   */
-  subjectOf({ by }) {
-    return by === this.name ? "You" : by;
-  }
-
-  /**
    * Whether it is known what an entry did.
    * @param {number} seq
    */

@@ -259,6 +259,17 @@ const LEAST_ZOOM_OF_SIGNS = 17;
 // Up to how many nodes in a window all are drawn. Of more, only those with tags are drawn, or only places.
 const MOST_NODES = 1500;
 
+// How many metres a house has, and how many pixels the disc of a node has at least from its middle to its edge.
+const HOUSE = 10;
+const LEAST_RADIUS = 1.2;
+
+/**
+ * How many pixels a house takes on a canvas, in the middle of a box.
+ * @param {Frame} frame
+ * @param {Box} box
+ */
+const housePixels = ({ scale }, { north, south }) => (HOUSE * scale) / metresAt({ x: 0, y: (north + south) / 2 });
+
 /** The shapes of all elements. Lists of numbers have the positions of nodes, by the slot of the node. */
 class Shapes {
   slots = new SlotTable(0);
@@ -1057,34 +1068,39 @@ class Shapes {
    */
   paintNodes(context, frame, box, zoom) {
     const slots = this.slotsIn(box, zoom);
+    const house = housePixels(frame, box);
     /** @param {number} slot */
     const pixelOf = (slot) => [this.xs[slot] * frame.scale - frame.left, this.ys[slot] * frame.scale - frame.top];
     const tagged = slots.filter((slot) => this.areTagged[slot]);
     context.fillStyle = "#5b6771";
+    const side = Math.min(4, house / 4); // four corners leave a house to be seen
     for (const slot of slots) {
       const [x, y] = pixelOf(slot);
-      if (!this.areTagged[slot]) context.fillRect(x - 2, y - 2, 4, 4);
+      if (!this.areTagged[slot]) context.fillRect(x - side / 2, y - side / 2, side, side);
     }
     /** @type {Lists<number, [x: number, y: number]>} */
     const bySymbol = new Lists();
     for (const slot of tagged) bySymbol.add(this.symbols[slot], /** @type {[number, number]} */(pixelOf(slot)));
-    for (const [at, points] of bySymbol) this.paintSymbols(context, SYMBOLS[at], points, zoom);
+    for (const [at, points] of bySymbol) this.paintSymbols(context, SYMBOLS[at], points, zoom, house);
     return slots.length;
   }
 
   /**
-   * Draws the discs of nodes, with their sign where there is room for it.
+   * Draws the discs of nodes, with their sign where there is room for it. They are no larger than a house, except
+   * where only places are drawn.
    * @param {CanvasRenderingContext2D} context
    * @param {NodeSymbol} symbol
    * @param {[x: number, y: number][]} points
    * @param {number} zoom
+   * @param {number} house
    */
-  paintSymbols(context, { colour, sign }, points, zoom) {
+  paintSymbols(context, { colour, sign }, points, zoom, house) {
     const isSigned = Boolean(sign) && zoom >= LEAST_ZOOM_OF_SIGNS;
-    const radius = isSigned ? 7.5 : zoom < 16 ? 3 : 4;
+    const most = isSigned ? 7.5 : zoom < 16 ? 3 : 4;
+    const radius = zoom < 12 ? most : Math.min(most, Math.max(LEAST_RADIUS, house / 2 - 1));
     context.fillStyle = colour;
     context.strokeStyle = "#fff";
-    context.lineWidth = 1;
+    context.lineWidth = Math.min(1, radius / 3);
     context.beginPath();
     for (const [x, y] of points) {
       context.moveTo(x + radius, y);

@@ -344,6 +344,7 @@ class Tools {
     const { page } = this;
     page.closeMenu();
     this.clickedWith = this.tool;
+    if (this.tool === "select" && page.files.click(point)) return;
     if (!page.session?.room) return;
     if (this.tool === "point") {
       this.makePoint(this.snap(point, isTouch));
@@ -957,6 +958,8 @@ class Tools {
     else if (key === "+" || key === "=") page.view.zoomBy(0.5);
     else if (key === "-") page.view.zoomBy(-0.5);
     else if (key === "0") page.fit();
+    else if (key === "?") Shortcuts.toggle();
+    else if (key === "f") focusFind();
     else return;
     event.preventDefault();
   }

@@ -173,15 +173,25 @@ class View {
   }
 
   /**
-   * Moves the window so that a box is not under the `covered` pixels at the bottom.
-   * @param {Box} box
-   * @param {number} covered
+   * Shows a position in the middle, from near enough to map there.
+   * @param {Position} position
    */
-  lift(box, covered) {
+  goTo({ x, y }) {
+    this.map.setView([Mercator.lat(y), Mercator.lon(x)], Math.max(17, this.zoom));
+  }
+
+  /**
+   * Moves the window so that a box is not under what covers some pixels at the right edge and at the bottom.
+   * @param {Box} box
+   * @param {number} right
+   * @param {number} bottom
+   */
+  uncover(box, right, bottom) {
     if (isEmptyBox(box)) return;
-    const free = this.size().y - covered;
-    const { y } = this.pointOf({ x: box.west, y: (box.north + box.south) / 2 });
-    if (y > free - 20) this.pan(0, y - free / 2);
+    const { x: width, y: height } = this.size();
+    const { x, y } = this.pointOf({ x: (box.west + box.east) / 2, y: (box.north + box.south) / 2 });
+    const [across, down] = [width - right, height - bottom];
+    this.pan(right && x > across - 20 ? x - across / 2 : 0, bottom && y > down - 20 ? y - down / 2 : 0);
   }
 
   /**

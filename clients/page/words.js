@@ -12,6 +12,9 @@
 
 /** @type {Record<string, string>} */
 const KINDS = { n: "node", w: "way", r: "relation" };
+/** @type {Record<string, string>} */
+const PLAIN_KINDS = { n: "a point", w: "a line", r: "a relation" };
+const MOST_TAGS_NAMED = 2; // in what an entry did
 const PLAIN_KEYS = ["amenity", "shop", "tourism", "leisure", "natural", "landuse", "railway", "waterway", "barrier",
   "man_made", "historic", "place", "boundary", "type"];
 
@@ -45,6 +48,22 @@ function nameOf({ tags }) {
 function titleOf(row) {
   const name = nameOf(row);
   return `${name ? `${name}, ` : ""}${kindOf(row)} ${row.el}`;
+}
+
+/**
+ * An element in the words of a mapper, without its number: “house 22 in Mill Lane”, “the street Mill Lane”, “a tree”.
+ * @param {MapElement} row
+ */
+function plainTitleOf(row) {
+  const { tags } = row;
+  const [number, street] = [tags["addr:housenumber"], tags["addr:street"] ?? tags["addr:place"]];
+  if (number && !tags.name) return `house ${number}${street ? ` in ${street}` : ""}`;
+  const name = nameOf(row);
+  const kind = kindOf(row);
+  if (!Object.values(KINDS).includes(kind)) {
+    return name ? `the ${kind} ${name}` : `${/^[aeio]/.test(kind) ? "an" : "a"} ${kind}`;
+  }
+  return name || PLAIN_KINDS[row.el[0]];
 }
 
 /**
@@ -98,7 +117,22 @@ function movedWays(rows, shapes, elements) {
 }
 
 /**
- * What an entry did: “made Mill Lane, street w-1 and 3 nodes”. It does not name the nodes of `ways`, which it moved.
+ * The tags that a change gave an element or took from it, in words in front of the element.
+ * @param {MapElement} before
+ * @param {MapElement} after
+ */
+function retagDeed(before, after) {
+  const keys = [...new Set([...Object.keys(before.tags), ...Object.keys(after.tags)])];
+  const changed = keys.filter((key) => valueOf(before, key) !== valueOf(after, key));
+  const gone = changed.filter((key) => valueOf(after, key) === null);
+  if (changed.length > MOST_TAGS_NAMED) return "changed the tags of";
+  if (gone.length === changed.length) return `removed ${gone.join(" and ")} from`;
+  const set = changed.map((key) => tagText(key, valueOf(after, key))).join(", ");
+  return `set ${set} on`;
+}
+
+/**
+ * What an entry did: “made the path Mill Lane and 3 points”. It does not name the nodes of `ways`, which it moved.
  * @param {ChangedRow[]} rows
  * @param {MapWay[]} ways
  */
@@ -108,23 +142,26 @@ function deedsOf(rows, ways = []) {
   const nodes = new Set(ways.flatMap((way) => way.nodes.map(nodeOf)));
   for (const way of ways) deeds.add("moved", way);
   for (const row of rows) {
-    const element = row.after ?? row.before;
-    if (element && !(nodes.has(row.el) && isMove(row))) deeds.add(deedTo(row), element);
+    const { before, after } = row;
+    const element = after ?? before;
+    if (!element || (nodes.has(row.el) && isMove(row))) continue;
+    const isRetag = before && after && !isSameValue(before.tags, after.tags);
+    deeds.add(isRetag ? retagDeed(before, after) : deedTo(row), element);
   }
   return [...deeds].map(([deed, elements]) => `${deed} ${listOf(elements)}`).join(", ") || "changed nothing";
 }
 
 /**
- * Some elements: those with names first, and of plain nodes only how many.
+ * Some elements in plain words: those with names first, and of plain nodes only how many.
  * @param {MapElement[]} elements
  */
 function listOf(elements) {
   const plain = elements.filter((row) => row.el[0] === "n" && !hasTags(row.tags));
   const rest = elements.filter((row) => !plain.includes(row)).reverse();
-  if (rest.length === 0 && plain.length === 1) return titleOf(plain[0]);
-  const parts = rest.slice(0, 2).map(titleOf);
+  if (rest.length === 0 && plain.length === 1) return plainTitleOf(plain[0]);
+  const parts = rest.slice(0, 2).map(plainTitleOf);
   if (rest.length > 2) parts.push(`${rest.length - 2} more`);
-  if (plain.length) parts.push(counted(plain.length, "node"));
+  if (plain.length) parts.push(counted(plain.length, "point"));
   return parts.length > 1 ? `${parts.slice(0, -1).join(", ")} and ${parts[parts.length - 1]}` : parts[0];
 }
 

@@ -100,6 +100,56 @@ def a_phone() -> None:
 
 
 @page_case
+def a_phone_on_its_side() -> None:
+    """On a phone that lies on its side there is one bar above the map. The details are beside the map, which moves what
+    is selected out from under them."""
+    with pages("anna") as (_, _, anna):
+        for width, height in ((640, 320), (844, 390)):
+            anna.resize(width, height, is_phone=True)
+            anna.wait(f"innerWidth === {width} && page.view.size().x === {width}")
+            want((width, anna.get("document.documentElement.scrollWidth <= innerWidth")), (width, True))
+            want((width, anna.get("$('frame').clientHeight > innerHeight * 0.8")), (width, True))
+            anna.get("page.select('w3'), page.fit()")
+            at_rest(anna).get("page.view.pan(-page.view.size().x / 3, 0)")
+            anna.click("#sheet")
+            anna.wait("$('side').getBoundingClientRect().right <= innerWidth + 1")
+            want(
+                anna.get("$('side').getBoundingClientRect().top < 2 && $('side').offsetHeight > innerHeight - 60"), True
+            )
+            want(at_node(at_rest(anna), "n9")[0] < anna.get("$('side').getBoundingClientRect().left"), True)
+            want(small_targets(anna), [])
+            anna.click("#close-sheet")
+            anna.wait("$('side').checkVisibility({ visibilityProperty: true }) === false")
+            shown = "[...document.querySelectorAll('#tools button')].filter((each) => each.checkVisibility())"
+            tops = anna.get(f"{shown}.map((each) => each.getBoundingClientRect().top)")
+            want((len(tops) > 7, len(set(tops))), (True, 1))
+            ends = anna.get(f"{shown}.map((each) => each.getBoundingClientRect().right)")
+            want(max(ends) <= anna.get("$('leave').getBoundingClientRect().left"), True)
+
+
+@page_case
+def the_list_of_keys() -> None:
+    """The key ? shows the keys, and Escape closes the list: the focus is where it was. Each key of a tool is in it."""
+    with pages("anna") as (_, _, anna):
+        anna.get("$('map').focus()")
+        anna.press("?")
+        anna.wait("!$('shortcuts').hidden && document.activeElement === $('close-shortcuts')")
+        keys = anna.get("[...document.querySelectorAll('#shortcuts kbd')].map((each) => each.textContent)")
+        tools = anna.get("[...Object.keys(TOOL_KEYS), ...Object.keys(SHAPE_KEYS)].map((each) => each.toUpperCase())")
+        want([key for key in tools if key not in " ".join(keys).split()], [])
+        anna.press("Escape")
+        want(anna.get("[$('shortcuts').hidden, document.activeElement.id]"), [True, "map"])
+        anna.click("#help")
+        anna.wait("!$('shortcuts').hidden")
+        anna.click("#close-shortcuts")
+        want(anna.get("$('shortcuts').hidden"), True)
+        anna.press("f")
+        want(anna.get("document.activeElement.id"), "find")
+        anna.press("?")
+        want(anna.get("$('shortcuts').hidden"), True)
+
+
+@page_case
 def narrow_and_wide() -> None:
     """At each width nothing is wider than the window, each button can be hit, and each field has a name."""
     with pages("anna") as (_, _, anna):
@@ -183,9 +233,9 @@ def for_a_screen_reader() -> None:
             tree = anna.tree()
             roles = ("button", "textbox", "combobox", "searchbox", "checkbox")
             want([one for one in tree if one[0] in roles and not one[1]], [])
-        tools = {"Select", "Point", "Line", "Area", "Undo", "Redo", "Zoom in", "Zoom out", "Find"}
+        tools = {"Select", "Point", "Line", "Area", "Undo", "Redo", "Zoom in", "Zoom out", "Find", "My place", "Keys"}
         want(tools - {name for _, name in tree}, set())
         want(("application", "The map") in tree, True)
         zoe.ask({"id": 4, "do": "retag", "el": "n4", "tags": {"ref": "1"}})
-        anna.wait_text("#news", "zoe changed the tags of 1, tree n4")
+        anna.wait_text("#news", "zoe set ref=1 on the tree 1")
         want(anna.get("[$('news').ariaLive, $('said').ariaLive]"), ["polite", "polite"])

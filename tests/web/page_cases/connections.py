@@ -65,7 +65,7 @@ def before_and_after_a_session() -> None:
             "[...document.querySelectorAll('aside h2')].filter((each) => each.checkVisibility()).map("
             "(each) => each.textContent)"
         )
-        want((anna.get(able), anna.get(titles)), ([], ["No map yet", "Background"]))
+        want((anna.get(able), anna.get(titles)), ([], ["No map yet", "Background", "Tracks and photos"]))
         anna.get("document.activeElement.blur()")
         anna.press("l")
         anna.wait_text("#message.refused", "Connect first.")
@@ -80,8 +80,8 @@ def before_and_after_a_session() -> None:
             anna.wait_text("#message.refused", "What you drew is kept")
             want((anna.get(able), anna.get("page.mayLeave()")), (["select"], False))
             want(anna.get("$('drawing').hidden"), True)
-            want("What you can undo" in anna.get(titles), False)
-            want(anna.get("$('people').textContent.includes('No change came')"), is_same)
+            want("Your changes" in anna.get(titles), False)
+            want(anna.get("$('people').textContent.includes('No change came')"), True)
             want(overlay_pixels(anna) > 100, True)
             if is_same:
                 connect(anna).wait("page.tools.draft?.places.length === 2")

@@ -83,6 +83,32 @@ def signs_of_nodes() -> None:
 
 
 @page_case
+def nodes_no_larger_than_houses() -> None:
+    """Zoomed out, a tree is no larger than a house of ten metres, and the corners of a house do not hide it. A town
+    stays large."""
+    rows = [
+        *(
+            a_node(number, 47.6 + lat / 1e5, 8.2 + lon / 1e5)
+            for number, lat, lon in ((1, 0, 0), (2, 0, 13), (3, 9, 13))
+        ),
+        a_node(4, 47.60009, 8.2),
+        a_node(5, 47.6, 8.201, natural="tree"),
+        a_node(6, 47.602, 8.201, place="town"),
+        a_way(1, 1, 2, 3, 4, 1, building="yes"),
+    ]
+    inside = "({ x: (Mercator.x(8.2) + Mercator.x(8.20013)) / 2, y: (Mercator.y(47.6) + Mercator.y(47.60009)) / 2 })"
+    with pages("anna", rows=rows) as (_, _, anna):
+        for zoom in (15, 16, 17):
+            anna.get(f"void page.view.map.setView([47.601, 8.2005], {zoom}, {{ animate: false }})")
+            house = anna.get("housePixels(page.view.painted.frame, page.view.painted.box)")
+            tree = colours(anna, "n5", 0, *range(-8, 9))
+            want((zoom, sum(each != NOTHING for each in tree) <= max(4, house + 1)), (zoom, True))
+            want((zoom, anna.get(f"{COLOUR}({inside})")), (zoom, "220,211,200,255"))
+        anna.get("void page.view.map.setView([47.601, 8.2005], 11, { animate: false })")
+        want(sum(each != NOTHING for each in colours(anna, "n6", 0, *range(-8, 9))) > 5, True)
+
+
+@page_case
 def areas_over_tiles() -> None:
     """Over tiles areas are outlines, until the mapper chooses how much of them is seen. Tiles can be faded."""
     rows = [

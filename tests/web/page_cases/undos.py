@@ -32,17 +32,17 @@ def two_pages_and_a_third_client() -> None:
         anna.click("#point")
         anna.click_at(*at(anna, 47.6006, 8.2002))
         bob.wait("page.elements.has('n-1')")
-        bob.wait_text("#changes", "anna made node n-1")
+        bob.wait_text("#changes", "anna made a point")
         anna.wait_text("#undos", "1: made a node")
         bob.get("page.select('n-1')")
         was = row(bob, "n-1")
         x, y = at_node(bob, "n-1")
         bob.drag((x, y), (x + 60, y - 40))
-        anna.wait_text("#changes", "bob moved node n-1")
+        anna.wait_text("#changes", "bob moved a point")
         settled(anna).click("#undo")
         anna.wait_text(
             "#message.refused",
-            "Not undone: bob later moved node n-1 (entry 2). You can undo yours after bob undid that, or change the "
+            "Not undone: bob later moved a point (entry 2). You can undo yours after bob undid that, or change the "
             "element by hand.",
         )
         want(anna.get("$('undo-possible').hidden"), True)
@@ -51,19 +51,19 @@ def two_pages_and_a_third_client() -> None:
         anna.wait_text("#selected-title", "n-1")
         settled(bob).click("#undo")
         comes(anna, "n-1", "lat", was["lat"])
-        anna.wait_text("#changes", "bob undid entry 2: moved node n-1")
+        anna.wait_text("#changes", "bob undid entry 2: moved a point")
         anna.wait("!document.querySelector('#changes .blocks') && page.session.conflict === null")
         anna.wait_text("#said", "What was in the way is gone")
         anna.click("#undos button", "Undo")
         anna.wait_text("#undos", "1, undone: made a node")
         bob.wait("!page.elements.has('n-1')")
-        bob.wait_text("#changes", "anna undid entry 1: made node n-1")
+        bob.wait_text("#changes", "anna undid entry 1: made a point")
         bob.wait_text("#selected-title", "Nothing selected")
         settled(anna).click("#redo")
         bob.wait("page.elements.has('n-1')")
-        bob.wait_text("#changes", "anna redid entry 1: made node n-1")
-        anna.wait_text("#changes", "4 You undid entry 1: made a node")
-        anna.wait_text("#people", "You redid entry 1: made a node")
+        bob.wait_text("#changes", "anna redid entry 1: made a point")
+        want(anna.get("[$('changes').children.length, $('people').children.length]"), [2, 1])
+        anna.wait_text("#undos", "5: made a node")
         zoe.follow(5)
         want(zoe.rows, settled(bob).get("Object.fromEntries(page.elements)"))
 
@@ -83,7 +83,7 @@ def the_last_that_can_be_undone() -> None:
         zoe.ask({"id": 2, "do": "create", "el": "w99", "nodes": [-1, 1], "tags": {"highway": "path", "name": "Elm"}})
         anna.wait("page.elements.has('w99')")
         refusal = (
-            "Not undone: zoe later made Elm, path w99 at node n-1 (entry 6). You can undo yours after zoe undid that, "
+            "Not undone: zoe later made the path Elm at a point (entry 6). You can undo yours after zoe undid that, "
             "or change the element by hand."
         )
         for undone in ("moved n10", "tagged 7"):
@@ -100,7 +100,7 @@ def the_last_that_can_be_undone() -> None:
         anna.wait_text("#said", "None of your changes can be undone: later changes build on each of them.")
         want(anna.get("$('undo-possible').hidden"), True)
         anna.click("#undos li:nth-child(2) button", "Undo")
-        anna.wait_text("#message.refused", "Not undone: bob later moved node n9 (entry 5).")
+        anna.wait_text("#message.refused", "Not undone: bob later moved a point (entry 5).")
         settled(bob).click("#undo")
         anna.wait_text("#said", "What was in the way is gone.")
         want(anna.get("$('undo-possible').hidden"), True)
@@ -178,16 +178,16 @@ def changes_of_an_earlier_visit() -> None:
     with pages("anna") as (_, zoe, anna):
         anna.get(tagged("7"))
         zoe.ask({"id": 2, "do": "move", "els": ["w2"], "dlat": 100, "dlon": 0})
-        settled(anna).wait_text("#changes", "zoe moved building w2")
+        settled(anna).wait_text("#changes", "zoe moved a building")
         anna.wait("JSON.parse(localStorage.getItem(page.session.key)).changes?.length === 2")
         anna.reload()
         anna.wait("typeof page !== 'undefined' && page.background && !page.session")
-        connect(anna).wait_text("#changes", "2 zoe moved building w2")
-        anna.wait_text("#people", "zoe moved building w2")
-        anna.wait_text("#changes", "1 You tagged 7")
+        connect(anna).wait_text("#changes", "zoe moved a building")
+        anna.wait_text("#people", "zoe moved a building")
+        anna.wait_text("#undos", "1: tagged 7")
         zoe.ask({"id": 3, "do": "retag", "el": "n4", "tags": {"height": "8"}})
-        anna.wait_text("#changes", "3 zoe changed the tags of 7, tree n4")
-        want(anna.get("[...$('changes').children].map((each) => each.dataset.seq)"), ["3", "2", "1"])
+        anna.wait_text("#changes", "zoe set height=8 on the tree 7")
+        want(anna.get("[...$('changes').children].map((each) => each.dataset.seq)"), ["3", "2"])
 
 
 @page_case
@@ -229,9 +229,9 @@ def what_was_made_before() -> None:
         want(page.get(lines), ["4: tagged", "3 earlier entries, made before you came"])
         for last, rest in ((3, "2 earlier entries, made before you came"), (2, "1: made before you came")):
             page.click("#undos button", f"Undo {last}")
-            page.wait_text("#said", f"Undone: made node n-{last + 1}.")
+            page.wait_text("#said", "Undone: made a point.")
             page.wait_text("#undos", rest)
-            want(page.get(lines)[:3], ["4: tagged", rest, f"{last}, undone: made node n-{last + 1}"])
+            want(page.get(lines)[:3], ["4: tagged", rest, f"{last}, undone: made a point"])
         page.end()
 
 
@@ -241,7 +241,7 @@ def people() -> None:
     saved something is remembered."""
     with pages("anna", tiles="http://127.0.0.1:9/{z}/{x}/{y}.png", credit="test") as (server, zoe, anna):
         zoe.ask({"id": 4, "do": "create", "el": "n99", "lat": "47.9", "lon": "8.9", "tags": {"natural": "tree"}})
-        anna.wait_text("#people", "zoe made tree n99")
+        anna.wait_text("#people", "zoe made a tree")
         anna.click("#people button", "Go")
         anna.wait("Math.abs(page.view.map.getCenter().lat - 47.9) < 0.001")
         want(anna.get("page.selected"), ["n99"])

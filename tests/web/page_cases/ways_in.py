@@ -38,6 +38,36 @@ def find_what_is_there() -> None:
 
 
 @page_case
+def find_an_address() -> None:
+    """Find knows addresses: the one that is typed comes first, and Enter goes there."""
+    address = {"addr:street": "Mill Lane"}
+    rows = [
+        *(
+            a_node(number, 47.6, 8.2 + number / 1e4, **address, **{"addr:housenumber": str(number)})
+            for number in (12, 22)
+        ),
+        a_node(30, 47.65, 8.2, **address, **{"addr:housenumber": "2"}),
+        a_node(40, 47.6, 8.3, name="Mill Lane 2 b"),
+    ]
+    with pages("anna", rows=rows) as (_, zoe, anna):
+        found = "[...$('found').children].map((each) => each.textContent)"
+        anna.fill("#find", "mill lane 2")
+        want(
+            anna.get(found),
+            [f"Mill Lane {house}" for house in ("2, address n30", "22, address n22")] + ["Mill Lane 2 b, node n40"],
+        )
+        anna.press("Enter")
+        anna.wait("page.selected[0] === 'n30' && Math.abs(page.view.map.getCenter().lat - 47.65) < 0.001")
+        zoe.ask({"id": 2, "do": "retag", "el": "n12", "tags": {"addr:street": "Elm Road"}})
+        anna.wait("page.session.room.seq === 1")
+        anna.fill("#find", "Elm road 12")
+        want(anna.get(found), ["Elm Road 12, address n12"])
+        anna.fill("#find", "nowhere")
+        anna.press("Enter")
+        want(anna.get("page.selected"), ["n30"])
+
+
+@page_case
 def keys_that_every_object_has() -> None:
     """A tag whose key is the name of something that every object of JavaScript has is a tag like others."""
     with pages("anna", rows=[a_node(1, 47.6, 8.2), a_node(2, 47.6, 8.3, shop="bakery")]) as (_, _, anna):
