@@ -33,7 +33,9 @@ function listen(page) {
   $("find").onkeydown = (event) => {
     if (event.key === "Enter" && panels.firstFound) page.show(panels.firstFound);
   };
+  $("selected").addEventListener("input", () => panels.fault && panels.dropFault());
   page.files.listen();
+  page.kept.listen();
   listenToInputs(page);
   listenToKeys(page);
   addEventListener("beforeunload", (event) => {

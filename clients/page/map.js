@@ -11,6 +11,7 @@
 //     Warnings        the faults that Checks finds, in what the mapper changed and in the whole map
 //     Questions       what the mapper is asked if somebody else changed the same value
 //     Copies          what the mapper copied
+//     KeptDrawings    drawings of a tab that was closed
 //     Background      the tiles under the map
 //     LocalFiles      tracks and photos of the mapper's own; Locator shows where the mapper is
 //     Shortcuts       the list of keys

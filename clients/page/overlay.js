@@ -23,7 +23,7 @@ class Overlay {
     this.paintFresh(context, frame);
     if (this.tools.hovered) this.paintElement(context, frame, this.tools.hovered, "rgba(21, 95, 168, .55)", 5);
     for (const el of page.selected) this.paintElement(context, frame, el, "#d6006c", 3, true);
-    const blocked = page.session?.conflict?.at;
+    const blocked = page.session?.conflict?.at ?? (page.refusal && page.shown);
     if (blocked) this.paintElement(context, frame, blocked, "#b3261e", 6);
     for (const dragged of this.tools.dragged ? [...this.tools.moving, this.tools.dragged] : this.tools.moving) {
       this.paintDragged(context, frame, dragged);

@@ -75,6 +75,7 @@ class Page {
     this.copies = new Copies();
     this.files = new LocalFiles(this);
     this.locator = new Locator(this);
+    this.kept = new KeptDrawings(this);
     // These are set when Leaflet is there. Nothing can be pressed before.
     /** @type {View} */
     this.view;
@@ -174,6 +175,7 @@ class Page {
   forgetRoom() {
     this.tools.unsaved = [];
     this.tools.use("select");
+    this.kept.keep();
     this.selected = [];
     this.panels.tags.typed.clear();
   }
@@ -207,6 +209,7 @@ class Page {
     if (restarted) this.questions.drop(() => new NotDone("not_sent", { restarted }));
     else this.questions.show();
     if (isFirst) this.tools.goOnDrawing();
+    if (isFirst) this.kept.bringBack();
     if (restarted) this.sayWrong("The server was restarted. This is the map that it has now.");
     setTimeout(() => this.panels.showAll(), 50); // after the map is seen
     whenIdle(() => this.prepare());
@@ -332,6 +335,7 @@ class Page {
 
   showSaved() {
     const { session } = this;
+    this.kept.keepSoon();
     const parts = [];
     if (session?.unsaved) parts.push(`${counted(session.unsaved, "change")} not saved`);
     const drawings = this.tools.countUnsaved();
@@ -359,6 +363,7 @@ class Page {
     $("message").className = isRefusal ? "refused" : text ? "" : "empty";
     $("hush").hidden = !isRefusal;
     this.shown = show;
+    this.view?.paintOverSoon();
     $("show").hidden = show === null || !this.elements.has(show);
     $("undo-possible").hidden = !conflict || !this.joinedSession.hasOtherUndos(conflict.seq);
   }
@@ -376,6 +381,17 @@ class Page {
     const texts = [...said.filter((each) => each !== text).slice(1 - MOST_REFUSALS), text];
     this.say(texts.join(" "), { ...about, isRefusal: true });
     this.refusal = { texts, inputs, isConflict: Boolean(about.isConflict) && texts.length === 1 };
+  }
+
+  /**
+   * Says what is wrong with something that is typed: next to its field if that is shown, otherwise above the map.
+   * @param {string} el
+   * @param {string | null} field null for the tags
+   * @param {string} text
+   */
+  sayFault(el, field, text) {
+    if (this.panels.formOf === el) this.panels.sayFault(field, text);
+    else this.sayWrong(text);
   }
 
   /**
@@ -888,8 +904,12 @@ class Page {
    */
   moveTo(row, lat, lon, { sight, seen = this.nodeRowsOf([row.el]) } = {}) {
     const [north, east] = [degreesOf(lat, 90), degreesOf(lon, 180)];
-    if (north === null) return this.sayWrong("The latitude is a number from -90 to 90, such as 47.1234567.");
-    if (east === null) return this.sayWrong("The longitude is a number from -180 to 180, such as 9.5212345.");
+    if (north === null) {
+      return this.sayFault(row.el, "Latitude", "The latitude is a number from -90 to 90, such as 47.1234567.");
+    }
+    if (east === null) {
+      return this.sayFault(row.el, "Longitude", "The longitude is a number from -180 to 180, such as 9.5212345.");
+    }
     /** @param {number} degrees */
     const steps = (degrees) => Math.round(degrees * 1e7);
     const claim = this.claimPlace(row.el, seen, `${lat}, ${lon}`);
@@ -911,7 +931,9 @@ class Page {
   saveNodes(el, text, before) {
     const nodes = text.split(/[\s,]+/).filter(Boolean).map((word) => Number(word.replace(/^n/, "")));
     const wrong = nodes.findIndex((id) => !Number.isSafeInteger(id) || id === 0);
-    if (wrong >= 0) return this.sayWrong("The nodes of a way are their numbers, with spaces between them.");
+    if (wrong >= 0) {
+      return this.sayFault(el, "Nodes", "The nodes of a way are their numbers, with spaces between them.");
+    }
     this.perform(`changed the line of ${this.titles([el])}`, () => {
       if (wayOf(el, this.elements).nodes.join(" ") !== before) throw new NotDone("other_nodes", { el });
       return [{ do: "nodes", el, nodes }];

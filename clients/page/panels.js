@@ -59,6 +59,8 @@ class Panels {
     this.sights = new Map(); // what the mapper saw when they began to type in a field, by its name
     /** @type {Map<string, SearchText> | null} */
     this.texts = null; // what is looked through, by the names of the elements
+    /** @type {{ of: string, name: string | null, text: string } | null} */
+    this.fault = null; // what is wrong with a field of what is shown, or with its tags
     this.isPressed = false; // whether the pointer is down on a list or a field
     /** @type {Map<string, () => void>} */
     this.postponed = new Map(); // what is shown when it is up again, by the parts
@@ -146,7 +148,40 @@ class Panels {
     else if (rows.length > 1) box.replaceChildren(...this.severalPart(rows));
     else box.replaceChildren(this.tags.part([row]), ...this.partsOf(row));
     if (focus) this.restoreFocus(box, focus, values);
+    this.showFault();
     this.isShowing = false;
+  }
+
+  // ---- Faults
+
+  /**
+   * Says what is wrong with a field of what is selected, next to it, or with its tags if no field is named.
+   * @param {string | null} name
+   * @param {string} text
+   */
+  sayFault(name, text) {
+    this.fault = { of: this.formOf ?? "", name, text };
+    this.showFault();
+    $("selected").querySelector(".fault")?.scrollIntoView({ block: "nearest" });
+  }
+
+  /** The fault stays until the mapper types again, or selects something else. */
+  dropFault() {
+    this.fault = null;
+    this.showFault();
+  }
+
+  showFault() {
+    const box = $("selected");
+    box.querySelector(".fault")?.remove();
+    box.querySelector("[aria-invalid]")?.removeAttribute("aria-invalid");
+    if (this.fault?.of !== this.formOf) this.fault = null;
+    if (!this.fault) return;
+    const { name, text } = this.fault;
+    const field = name === null ? null : box.querySelector(`[data-field="${CSS.escape(name)}"]`);
+    field?.setAttribute("aria-invalid", "true");
+    const place = field?.closest("label") ?? box.querySelector("form > .row");
+    place?.before(make("p", { className: "fault", textContent: text, role: "alert" }));
   }
 
   /**

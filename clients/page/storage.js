@@ -26,4 +26,12 @@ const memory = {
       // Nothing is kept.
     }
   },
+  /** @param {string} key */
+  drop(key) {
+    try {
+      localStorage.removeItem(key);
+    } catch {
+      // Nothing was kept.
+    }
+  },
 };

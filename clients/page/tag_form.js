@@ -202,9 +202,10 @@ class TagForm {
    */
   save(...drafts) {
     const { page } = this;
-    const fault = drafts.map((draft) => draft.fault()).find(Boolean);
-    if (fault) {
-      page.sayWrong(fault);
+    for (const draft of drafts) {
+      const fault = draft.fault();
+      if (!fault) continue;
+      page.sayFault(draft.key, null, fault);
       return;
     }
     const changed = this.changesOf(drafts);

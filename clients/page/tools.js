@@ -479,6 +479,7 @@ class Tools {
     const text = `${counted(places.length, "point")}${extend ? `, going on with ${extend}` : ""}.`;
     this.page.say(`${text} ${this.hintOf(isArea ? "area" : "line")}`);
     this.page.isHint = true;
+    this.page.kept.keepSoon();
     this.showPreset();
     $("finish").disabled = places.length < (isArea ? 3 : 2);
     this.page.view.paintOverSoon();

@@ -7,6 +7,7 @@ from collections.abc import Iterator
 from lib.browser import Page
 from lib.cases import want
 from lib.map_pages import at_node, connect, opened, settled, url_of
+from lib.programs import wait_for
 from lib.proxy import Proxy
 from lib.talk import serving
 from page_cases.looking import at, at_once, close_not_done, comes, draw, draw_unanswered, names_of, new_names
@@ -97,6 +98,55 @@ def before_and_after_a_session() -> None:
         anna.wait_text("#said", "The server has no room of this name.")
         want(anna.get("page.tools.unsaved.length"), 0)
         anna.end()
+
+
+@page_case
+def a_drawing_of_a_closed_tab() -> None:
+    """A drawing outlives its tab: the next one in the same room has it, with its preset and what it meets, and saves it.
+    Another tab has it only once the first is closed. What was saved or given up does not come back."""
+    with serving(workers=6, sessions=20, base=base_of(village())) as server, browsing() as (files, chrome):
+
+        def tab() -> Page:
+            return connect(opened(chrome, url_of(files, server.port, "anna"), is_apart=True))
+
+        def close(page: Page) -> None:
+            page.end()
+            target = page.ask("Target.getTargetInfo")["targetInfo"]["targetId"]
+            chrome.ask("Target.closeTarget", targetId=target)
+
+        def count(page: Page) -> int:
+            drawn: int = page.get("(page.tools.draft?.places.length ?? 0) + page.tools.unsaved.length")
+            return drawn
+
+        first = tab()
+        draw(first, at(first, 47.6004, 8.2005), at_node(first, "n3"), finish=None)
+        first.get("$('preset').value = 'Track'")
+        first.wait("Object.keys(localStorage).some((key) => key.startsWith('maproom drawings'))")
+        second = tab()
+        second.get("page.kept.bringBack()")
+        want(count(second), 0)
+        close(first)
+        third = tab()
+        third.wait_text("#said", "What you drew at your last visit is here again. Press Enter to save it")
+        want((third.get("page.tools.draft.places.length"), third.get("$('preset').value")), (2, "Track"))
+        want(third.get("$('saved').textContent"), "1 drawing not saved")
+        third.press("Enter")
+        third.wait("page.elements.has('w-1')")
+        want((row(settled(third), "w-1")["nodes"], row(third, "w-1")["tags"]), ([-1, 3], {"highway": "track"}))
+        third.wait("!Object.keys(localStorage).some((key) => key.startsWith('maproom drawings'))")
+        second.get("page.kept.bringBack()")
+        want(count(second), 0)
+        draw(third, at(third, 47.6004, 8.2005), at_node(third, "n3"), finish=None)
+        third.wait("Object.keys(localStorage).some((key) => key.startsWith('maproom drawings'))")
+        settled(second).get("page.perform('moved', () => [{ do: 'move', els: ['n3'], dlat: 9, dlon: 0 }])")
+        third.wait("page.elements.get('n3').lat === '47.6004009'")
+        close(third)
+        came = "page.kept.bringBack().then(() => page.tools.draft?.places.length === 2)"
+        wait_for("the drawing does not come", lambda: bool(second.get(came)))
+        want(second.get("page.tools.draft.places[1].el ?? null"), None)
+        second.press("Escape")
+        second.wait("!Object.keys(localStorage).some((key) => key.startsWith('maproom drawings'))")
+        second.end()
 
 
 @page_case

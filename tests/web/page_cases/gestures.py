@@ -133,7 +133,7 @@ def typed_tags() -> None:
         anna.wait_text("#saved", "All saved")
         anna.fill("#selected .tag:last-child input:nth-child(2)", "asphalt")
         anna.click("#selected button", "Save tags")
-        anna.wait_text("#message.refused", "A tag needs a key: “asphalt” has none")
+        anna.wait_text("#selected form .fault", "A tag needs a key: “asphalt” has none")
 
 
 @page_case

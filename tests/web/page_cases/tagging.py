@@ -90,7 +90,7 @@ def several_tags_at_once() -> None:
             fill_line(anna, key, value)
         fill_line(anna, "lit", "no")
         anna.click("#selected button", "Save tags")
-        anna.wait_text("#message.refused", "“lit” is there twice.")
+        anna.wait_text("#selected form .fault", "“lit” is there twice.")
         want((anna.get("page.session.room.seq"), "lit" in row(anna, "w3")["tags"]), (0, False))
         anna.click("#selected .tag:nth-last-child(2) button")
         anna.click("#selected button", "Save tags")
@@ -99,7 +99,7 @@ def several_tags_at_once() -> None:
         want(anna.get("page.session.room.seq"), 1)
         fill_line(settled(anna), "name", "Other Lane")
         anna.click("#selected button", "Save tags")
-        anna.wait_text("#message.refused", "“name” is there twice.")
+        anna.wait_text("#selected form .fault", "“name” is there twice.")
         want(row(anna, "w3")["tags"], wanted)
 
 

@@ -89,7 +89,11 @@ def nodes_of_a_way(anna: Page) -> None:
     comes(anna, "n2", "lat", "47.6001000")
     fill_in(settled(anna), "Latitude", "a lot")
     anna.click("#selected button", "Move to")
-    anna.wait_text("#message.refused", "The latitude is a number from -90 to 90")
+    anna.wait_text("#selected .fault", "The latitude is a number from -90 to 90")
+    field = "document.querySelector('[aria-invalid]')"
+    want(anna.get(f"[{field}.dataset.field, $('said').textContent.includes('latitude')]"), ["Latitude", False])
+    fill_in(anna, "Latitude", "47.6")
+    want(anna.get(f"[{field}, document.querySelector('.fault')]"), [None, None])
     anna.get("page.select('w3')")
     anna.click("#selected button", "Delete")
     anna.wait_text("#message.refused", "route r1 uses this")
