@@ -17,7 +17,8 @@
  *   & Record<"changes-title" | "changes" | "people-title" | "people" | "figures" | "keys" | "values", HTMLElement>
  *   & Record<"warnings-title" | "warnings-count" | "warnings", HTMLElement>
  *   & Record<"relations-title" | "relations" | "tiles-title" | "tiles-own" | "tiles-more", HTMLElement>
- *   & Record<"tiles-offset" | "shortcuts" | "shortcuts-list" | "files" | "photo" | "photo-title", HTMLElement>
+ *   & Record<"tiles-offset" | "shortcuts" | "shortcuts-title" | "shortcuts-list", HTMLElement>
+ *   & Record<"files-title" | "files" | "photo" | "photo-title", HTMLElement>
  *   & Record<"photo-canvas", HTMLCanvasElement>} PageElements
  *
  * @typedef {"connect" | "share" | "leave" | ToolId | "undo" | "redo" | "closer" | "farther" | "fit" | "sheet"
@@ -74,7 +75,9 @@ const isIn = ({ target }, selector) => target instanceof Element && target.close
  */
 function button(text, onclick, { sign, ...properties } = {}) {
   const made = make("button", { type: "button", textContent: text, onclick, ...properties });
-  if (sign) made.prepend(signOf(sign));
+  if (!sign) return made;
+  made.classList.add("signed");
+  made.prepend(signOf(sign));
   return made;
 }
 

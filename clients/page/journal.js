@@ -50,7 +50,7 @@ class Journal {
     const { session } = this.page;
     const { undos, redos } = session && this.page.isInside ? session : { undos: [], redos: [] };
     const items = [...this.runsOf(undos).reverse().map((run) => this.undoItem(run)),
-      ...this.runsOf(redos).reverse().map((run, index) => this.redoItem(run, index === 0))];
+    ...this.runsOf(redos).reverse().map((run, index) => this.redoItem(run, index === 0))];
     this.fill("undos", items, "Nothing yet.", () => this.putUndos());
     const [last, taken] = [undos.at(-1), redos.at(-1)];
     /**

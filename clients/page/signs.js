@@ -59,6 +59,7 @@ function putSigns() {
     const item = $(/** @type {ButtonId} */(id));
     const text = (item.textContent ?? "").trim();
     if (!item.hasAttribute("aria-label")) item.setAttribute("aria-label", text);
+    item.classList.add("signed");
     item.replaceChildren(signOf(sign), make("span", { textContent: text }));
   }
 }

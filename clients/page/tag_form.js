@@ -35,7 +35,7 @@ class TagForm {
     const search = kinds.length === 1 ? [presetSearch(kinds[0], (preset) => this.usePreset(draft, preset))] : [];
     const discard = button("Discard", () => this.discard(draft), { hidden: draft.typed().length === 0 });
     return make("form", { onsubmit: submit, label: "Tags" }, lines, ...search,
-      line(make("button", { className: "main" }, signOf("save"), "Save tags"), discard));
+      line(make("button", { className: "main signed" }, signOf("save"), "Save tags"), discard));
   }
 
   /**
