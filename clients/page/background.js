@@ -97,7 +97,7 @@ class Background {
   useOwn() {
     const own = { url: $("tiles-url").value.trim(), credit: $("tiles-credit").value.trim() };
     if (!/^https?:\/\/.*\{z\}/.test(own.url) || !own.url.includes("{x}") || !/\{-?y\}/.test(own.url)) {
-      this.page.sayWrong("The address of tiles has {z}, {x} and {y} in it.");
+      sayFaultAt($("tiles-url"), "The address of tiles has {z}, {x} and {y} in it.");
       return;
     }
     memory.set("maproom tiles", own);

@@ -82,6 +82,24 @@ function button(text, onclick, { sign, ...properties } = {}) {
 }
 
 /**
+ * Says next to a field what is wrong with it, until somebody types there.
+ * @param {HTMLInputElement} field
+ * @param {string} text
+ */
+function sayFaultAt(field, text) {
+  const said = make("p", { className: "fault", textContent: text, role: "alert" });
+  const drop = () => {
+    said.remove();
+    field.removeAttribute("aria-invalid");
+  };
+  if (field.hasAttribute("aria-invalid")) field.closest("label")?.nextElementSibling?.remove();
+  field.setAttribute("aria-invalid", "true");
+  field.closest("label")?.after(said);
+  field.addEventListener("input", drop, { once: true });
+  field.focus();
+}
+
+/**
  * @param {"p" | "li" | "time"} tag
  * @param {string} text
  */

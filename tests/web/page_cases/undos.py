@@ -165,11 +165,11 @@ def a_click_while_news_come() -> None:
         anna.get("page.session.askUndos()")
         anna.wait("page.session.room.seq === 8")
         anna.get("new Promise((done) => setTimeout(done, 200))")
-        want(anna.get("$('changes').textContent.includes('8')"), False)
+        want(anna.get("$('changes').textContent.includes('lit=8')"), False)
         want(middle_of(anna, "#undos button"), place)
         anna.mouse("mouseReleased", *place)
         anna.wait_text("#said", "Undone: tagged 7.")
-        anna.wait("$('changes').textContent.includes('8')")
+        anna.wait("$('changes').textContent.includes('lit=8')")
 
 
 @page_case

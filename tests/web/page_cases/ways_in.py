@@ -92,7 +92,13 @@ def tiles_and_credit() -> None:
         want((anna.get(credit), files.asked), ("© OpenStreetMap contributors", []))
         want(anna.get("Boolean(document.querySelector('.leaflet-control-scale'))"), True)
         anna.get("(() => { $('tiles-choice').value = 'own'; $('tiles-choice').onchange(); })()")
+        for _ in range(2):
+            anna.fill("#tiles-url", f"{files.url}/tiles/")
+            anna.click("#tiles button", "Show tiles")
+        faults = "[...document.querySelectorAll('#tiles .fault')].map((each) => each.textContent)"
+        want(anna.get(faults), ["The address of tiles has {z}, {x} and {y} in it."])
         anna.fill("#tiles-url", f"{files.url}/tiles/{{z}}/{{x}}/{{y}}.png")
+        want((anna.get(faults), anna.get("$('tiles-url').ariaInvalid")), ([], None))
         anna.fill("#tiles-credit", "<b>Painter</b>")
         anna.click("#tiles button", "Show tiles")
         anna.wait("document.querySelectorAll('.leaflet-tile-loaded').length > 3")
