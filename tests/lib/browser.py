@@ -176,11 +176,9 @@ class Page:
     def tap(self, x: float, y: float, count: int = 1) -> None:
         """Taps with a finger, perhaps several times. However slow the browser is, no tap becomes a long press."""
         places = [{"x": x, "y": y, "id": 0}]
-        taps: list[dict[str, Any]] = [
-            {"type": "touchStart", "touchPoints": places},
-            {"type": "touchEnd", "touchPoints": []},
-        ]
-        self.ask_together("Input.dispatchTouchEvent", *taps * count)
+        down: dict[str, Any] = {"type": "touchStart", "touchPoints": places}
+        up: dict[str, Any] = {"type": "touchEnd", "touchPoints": []}
+        self.ask_together("Input.dispatchTouchEvent", *[down, up] * count)
 
     def tree(self) -> list[tuple[str, str]]:
         """The role and the name of each element that a screen reader reads."""

@@ -50,11 +50,8 @@ def side_by_side() -> Iterator[SideBySide]:
         link = Link(server)
         kept.enter_context(link.proxy)
         kept.callback(link.may_pass.set)
-        addresses: dict[str, str | int] = {"anna": server.port, "bob": link.proxy.url}
-        anna, bob = (
-            connect(opened(chrome, url_of(files, address, name), 1000, 700, is_apart=True))
-            for name, address in addresses.items()
-        )
+        urls = url_of(files, server.port, "anna"), url_of(files, link.proxy.url, "bob")
+        anna, bob = (connect(opened(chrome, url, 1000, 700, is_apart=True)) for url in urls)
         yield SideBySide(link, anna, bob)
         for page in (anna, bob):
             page.end()
