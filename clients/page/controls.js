@@ -77,7 +77,7 @@ function listenToInputs(page) {
   document.addEventListener("pointerdown", (event) => {
     count();
     if (event.pointerType) page.isTouch = event.pointerType !== "mouse";
-    if (isIn(event, "#side, #above")) page.panels.press();
+    if (event.button === 0 && isIn(event, "#side, #above")) page.panels.press();
   }, true);
   for (const kind of ["pointerup", "pointercancel"]) document.addEventListener(kind, () => page.panels.release(), true);
   document.addEventListener("keydown", count, true);

@@ -56,6 +56,16 @@ class KeptDrawings {
     this.write(key, kept);
   }
 
+  /** The room is left: what is drawn is another room's or name's now, if it stays. */
+  forget() {
+    const { key } = this;
+    if (!this.isKeeping || !key) return;
+    const kept = this.kept(key);
+    if (!kept[this.tab]) return;
+    delete kept[this.tab];
+    this.write(key, kept);
+  }
+
   /**
    * @param {string} key
    * @returns {Record<string, KeptDraft[]>}

@@ -124,7 +124,9 @@ class Page {
     const url = withoutLogin(address);
     const session = new Session(url, roomName, name);
     if (this.isElsewhere(url, roomName)) this.forgetRoom();
+    this.kept.forget();
     this.session = session;
+    this.kept.keepSoon();
     this.follow(session);
     session.choose = (disputes) => this.questions.ask(disputes);
     session.open();
@@ -175,7 +177,6 @@ class Page {
   forgetRoom() {
     this.tools.unsaved = [];
     this.tools.use("select");
-    this.kept.keep();
     this.selected = [];
     this.panels.tags.typed.clear();
   }

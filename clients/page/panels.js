@@ -15,6 +15,7 @@
  */
 
 const MOST_SHOWN = 50;
+const LONGEST_PRESS = 3000; // milliseconds for which lists stay as they are while the pointer is down
 const CHOOSE = "Choose something on the map, or from a list below.";
 const CONNECT = "Connect to a room to see its map, and to draw on it.";
 
@@ -62,6 +63,8 @@ class Panels {
     /** @type {{ of: string, name: string | null, text: string } | null} */
     this.fault = null; // what is wrong with a field of what is shown, or with its tags
     this.isPressed = false; // whether the pointer is down on a list or a field
+    /** @type {number | undefined} */
+    this.pressTimer = undefined;
     /** @type {Map<string, () => void>} */
     this.postponed = new Map(); // what is shown when it is up again, by the parts
   }
@@ -71,11 +74,14 @@ class Panels {
   /** From now on everything stays where it is, since a button that moves or is made anew gets no click. */
   press() {
     this.isPressed = true;
+    clearTimeout(this.pressTimer);
+    this.pressTimer = setTimeout(() => this.release(), LONGEST_PRESS); // nobody may see where it comes up
   }
 
   /** The pointer is up: what came meanwhile is shown once the click is done. */
   release() {
     if (!this.isPressed) return;
+    clearTimeout(this.pressTimer);
     this.isPressed = false;
     setTimeout(() => {
       const works = [...this.postponed.values()];

@@ -103,7 +103,8 @@ def before_and_after_a_session() -> None:
 @page_case
 def a_drawing_of_a_closed_tab() -> None:
     """A drawing outlives its tab: the next one in the same room has it, with its preset and what it meets, and saves it.
-    Another tab has it only once the first is closed. What was saved or given up does not come back."""
+    Another tab has it only once the first is closed. What was saved or given up does not come back. It is kept under the
+    name that the mapper has now."""
     with serving(workers=6, sessions=20, base=base_of(village())) as server, browsing() as (files, chrome):
 
         def tab() -> Page:
@@ -118,10 +119,11 @@ def a_drawing_of_a_closed_tab() -> None:
             drawn: int = page.get("(page.tools.draft?.places.length ?? 0) + page.tools.unsaved.length")
             return drawn
 
+        kept = "Object.keys(localStorage).filter((key) => key.startsWith('maproom drawings'))"
         first = tab()
         draw(first, at(first, 47.6004, 8.2005), at_node(first, "n3"), finish=None)
         first.get("$('preset').value = 'Track'")
-        first.wait("Object.keys(localStorage).some((key) => key.startsWith('maproom drawings'))")
+        first.wait(f"{kept}.length === 1")
         second = tab()
         second.get("page.kept.bringBack()")
         want(count(second), 0)
@@ -133,19 +135,25 @@ def a_drawing_of_a_closed_tab() -> None:
         third.press("Enter")
         third.wait("page.elements.has('w-1')")
         want((row(settled(third), "w-1")["nodes"], row(third, "w-1")["tags"]), ([-1, 3], {"highway": "track"}))
-        third.wait("!Object.keys(localStorage).some((key) => key.startsWith('maproom drawings'))")
+        third.wait(f"{kept}.length === 0")
         second.get("page.kept.bringBack()")
         want(count(second), 0)
         draw(third, at(third, 47.6004, 8.2005), at_node(third, "n3"), finish=None)
-        third.wait("Object.keys(localStorage).some((key) => key.startsWith('maproom drawings'))")
+        third.wait(f"{kept}.length === 1")
         settled(second).get("page.perform('moved', () => [{ do: 'move', els: ['n3'], dlat: 9, dlon: 0 }])")
         third.wait("page.elements.get('n3').lat === '47.6004009'")
         close(third)
         came = "page.kept.bringBack().then(() => page.tools.draft?.places.length === 2)"
         wait_for("the drawing does not come", lambda: bool(second.get(came)))
         want(second.get("page.tools.draft.places[1].el ?? null"), None)
+        second.wait(f"{kept}.length === 1 && {kept}[0].endsWith(' anna')")
+        second.get("void (window.confirm = () => true)")
+        second.click("#leave")
+        second.fill("#name", "mika")
+        connect(second).wait("page.tools.draft?.places.length === 2")
+        second.wait(f"{kept}.length === 1 && {kept}[0].endsWith(' mika')")
         second.press("Escape")
-        second.wait("!Object.keys(localStorage).some((key) => key.startsWith('maproom drawings'))")
+        second.wait(f"{kept}.length === 0")
         second.end()
 
 

@@ -170,6 +170,9 @@ def a_click_while_news_come() -> None:
         anna.mouse("mouseReleased", *place)
         anna.wait_text("#said", "Undone: tagged 7.")
         anna.wait("$('changes').textContent.includes('lit=8')")
+        anna.mouse("mousePressed", *middle_of(anna, "#people li"))
+        zoe.ask({"id": 9, "do": "retag", "el": "w3", "tags": {"lit": "never"}})
+        anna.wait_text("#changes", "lit=never")  # the pointer stays down for long
 
 
 @page_case
