@@ -592,8 +592,10 @@ class Panels {
     if (row) for (const key in row.tags) text += `\n${key}=${row.tags[key]}`;
     if (!row || !text) return;
     const { name = "", place } = row.tags;
-    const address = addressOf(row.tags).toLowerCase();
-    this.texts.set(el, { text: `${text.toLowerCase()}\n${address}`, name: name.toLowerCase(), address, place });
+    const address = addressOf(row.tags);
+    if (address) text += `\n${address}`;
+    const [whole, small, smallAddress] = [text, name, address].map((each) => each.toLowerCase());
+    this.texts.set(el, { text: whole, name: small, address: smallAddress, place });
   }
 
   /**
