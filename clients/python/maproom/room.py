@@ -100,6 +100,7 @@ class Room:
         self._address, self._headers = url, {name_header: name} if name_header else None
         self.open_timeout, self.timeout, self.heartbeat = open_timeout, timeout, heartbeat
         self.state = "closed"
+        self._is_queued = False
         # Ids are spent for the life of the room, so each run of a program begins above those of earlier runs.
         self._core = self.core_class(room, name, first_id=time.time_ns() // 1000, window=WINDOW)
         self._elements = types.MappingProxyType(self._core.elements)
@@ -196,8 +197,11 @@ class Room:
         sockets = socket_module()
         try:
             limit = None if not self._is_there.done() else self.open_timeout or 60
-            socket = await asyncio.wait_for(sockets.Socket.open(self._address, self._headers), limit)
+            self._is_queued = False
+            socket = await asyncio.wait_for(sockets.Socket.open(self._address, self._headers, self._queued), limit)
+            self._is_queued = False
         except (ValueError, *sockets.FAULTS) as fault:
+            self._is_queued = self._is_queued and isinstance(fault, asyncio.TimeoutError)
             if not self._is_there.done():
                 raise ConnectionFailed(f"no connection to {self.url}: {str(fault) or type(fault).__name__}") from fault
             return False
@@ -227,6 +231,10 @@ class Room:
         if not self._is_there.done():
             raise ConnectionFailed(f"{self.url} ended the connection before it sent the map")
         return self._texts > 2
+
+    def _queued(self) -> None:
+        """Notes that the server took the connection, and has not answered it."""
+        self._is_queued = True
 
     async def _read(self, socket: Socket) -> None:
         """Takes what comes."""
@@ -286,6 +294,14 @@ class Room:
     def seq(self) -> int:
         """The number of the last entry in `elements`: what you see now, for `since`."""
         return self._core.seq or 0
+
+    @property
+    def is_queued(self) -> bool:
+        """Whether the server took the connection and does not answer it: all of its workers are busy.
+
+        If it did not answer in time, this stays True until the next attempt.
+        """
+        return self._is_queued
 
     @property
     def pending(self) -> int:

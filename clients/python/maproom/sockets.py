@@ -4,7 +4,7 @@ from __future__ import annotations
 import asyncio
 import socket
 import sys
-from typing import AsyncIterator, Mapping, Optional
+from typing import AsyncIterator, Callable, Mapping, Optional
 
 import aiohttp
 
@@ -17,6 +17,17 @@ FAULTS = (OSError, asyncio.TimeoutError, aiohttp.ClientError)
 LAST_DATA = slice(52, 56)
 
 
+def tracing(connected: Callable[[], object]) -> aiohttp.TraceConfig:
+    """Has aiohttp call a function when there is a connection."""
+
+    async def note(*_: object) -> None:
+        connected()
+
+    config = aiohttp.TraceConfig()
+    config.on_connection_create_end.append(note)
+    return config
+
+
 class Socket:
     """A connection to a room."""
 
@@ -24,11 +35,22 @@ class Socket:
         self.session, self.stream = session, stream
 
     @classmethod
-    async def open(cls, url: str, headers: Optional[Mapping[str, str]] = None) -> Socket:
-        """Connects, with these headers in the handshake. It raises one of FAULTS, or ValueError for a bad address."""
+    async def open(
+        cls,
+        url: str,
+        headers: Optional[Mapping[str, str]] = None,
+        connected: Callable[[], object] = lambda: None,
+    ) -> Socket:
+        """Connects, with these headers in the handshake. As soon as there is a connection, before the server answers
+        it, calls `connected`.
+
+        It raises one of FAULTS, or ValueError for a bad address.
+        """
         plain, login = address_of(url)
         auth = aiohttp.BasicAuth(*login, encoding="utf-8") if login else None
-        session = aiohttp.ClientSession(timeout=aiohttp.ClientTimeout(total=None), trust_env=True)
+        session = aiohttp.ClientSession(
+            timeout=aiohttp.ClientTimeout(total=None), trust_env=True, trace_configs=[tracing(connected)]
+        )
         try:
             return cls(
                 session, await session.ws_connect(plain, auth=auth, headers=headers, max_msg_size=0, autoclose=True)

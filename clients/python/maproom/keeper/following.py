@@ -7,9 +7,9 @@ import contextlib
 import enum
 import time
 from dataclasses import dataclass
-from typing import Any, Dict, List, Optional, Set
+from typing import Any, Callable, Dict, List, Optional, Set, TypeVar
 
-from .. import ConnectionFailed, Error, connect
+from .. import ConnectionFailed, Error, NoRoom, connect
 from ..addresses import address_of
 from ..core import Change, Element, Event, Reset, differences
 from ..room import Changes, Room
@@ -17,13 +17,18 @@ from .folder import RECENT, Folder, NothingSaved, Saved, Note, is_restored, load
 from .journal import Damaged, Entry, Position, encoded
 from .lineage import Lineage, lineage
 from .snapshots import Snapshot
-from .status import Waiting, show_status
+from .status import Status
+
+Result = TypeVar("Result")
 
 # How many seconds news are collected before they are written and synchronized together.
 GROUPING = 0.02
 
 # How many seconds pass before the next attempt to connect, or to write after a failure.
 PAUSE = 1.0
+
+# Why the keeper waits if the server took its connection, and does not answer it.
+NO_WORKER = "no worker is free"
 
 # How often the keeper looks whether it is still connected, in seconds.
 LOOK = 0.05
@@ -71,9 +76,10 @@ class Keeper:
         self._pending: List[bytes] = []
         self._writing = asyncio.Lock()
         self._has_news, self._ends = asyncio.Event(), asyncio.Event()
-        self._waiting = Waiting(plan.room, note)
+        self._status = Status(note)
         self._entries_since_snapshot = 0
         self._failing_since: Optional[float] = None
+        self._failure = ""
         self._is_busy = False
 
     def stop(self) -> None:
@@ -103,34 +109,42 @@ class Keeper:
 
     async def _connected(self) -> Optional[Room]:
         """The room, as soon as there is a session. None if the keeper is to end first."""
-        is_noted = False
-        self._waiting.goes_on(f"connecting to {address_of(self.plan.url).url}")
+        self._status.waits(f"connecting to {address_of(self.plan.url).url}", is_noted=False)
         while not self._ends.is_set():
             room = connect(self.plan.url, room=self.plan.room, name=self.plan.name, name_header=self.plan.name_header)
-            opening = asyncio.ensure_future(room.open())
-            await self._until_end(opening)
+            try:
+                await self._opened(room)
+                if room.state == "open":
+                    return room
+            except NoRoom:
+                self._status.waits(f"{room.url} has no room {self.plan.room}")
+            except ConnectionFailed as fault:
+                self._status.waits(NO_WORKER if room.is_queued else str(fault))
+            await self._sleep(PAUSE)
+        return None
+
+    async def _opened(self, room: Room) -> None:
+        """Waits until the room is open, or the keeper is to end. Raises what `Room.open` raises."""
+        opening = asyncio.ensure_future(room.open())
+        try:
+            while not opening.done() and not self._ends.is_set():
+                await self._until_end(opening, seconds=PAUSE)
+                if room.is_queued:
+                    self._status.waits(NO_WORKER)
+            if opening.done():
+                opening.result()
+        finally:
             if not opening.done():
                 opening.cancel()
                 await asyncio.gather(opening, return_exceptions=True)
                 await room.close()
-                break
-            try:
-                opening.result()
-                return room
-            except ConnectionFailed as fault:
-                if not is_noted:
-                    self.note(f"{fault}; trying again")
-                is_noted = True
-                self._waiting.goes_on(str(fault))
-                await self._sleep(PAUSE)
-        return None
 
-    async def _until_end(self, *tasks: asyncio.Future[None]) -> None:
-        """Waits until a task is done, or the keeper is to end."""
+    async def _until_end(self, *tasks: asyncio.Future[None], seconds: Optional[float] = None) -> None:
+        """Waits until a task is done, or the keeper is to end, or for some seconds at most."""
         ending = asyncio.ensure_future(self._ends.wait())
         waited: Set[asyncio.Future[Any]] = {*tasks, ending}
         try:
-            await asyncio.wait(waited, return_when=asyncio.FIRST_COMPLETED)
+            await asyncio.wait(waited, timeout=seconds, return_when=asyncio.FIRST_COMPLETED)
         finally:
             ending.cancel()
 
@@ -142,7 +156,6 @@ class Keeper:
     async def _follow(self, room: Room) -> None:
         """Follows the room until the keeper is to end, and saves all that came until then."""
         self.folder.session.take()
-        self._waiting.ends()
         changes = room.changes()
         self._begin(dict(room.elements), room.seq)
         await self._snapshot_at_start()
@@ -188,6 +201,7 @@ class Keeper:
             self._take(event)
             if isinstance(event, Reset):
                 self._share(room)
+        await room.wait_closed()
         raise ConnectionFailed("the room was closed")
 
     def _share(self, room: Room) -> None:
@@ -245,10 +259,14 @@ class Keeper:
         idle = 0
         while True:
             await asyncio.sleep(LOOK)
-            if room.state != "open":
-                self._waiting.goes_on(f"the connection to {room.url} broke")
-            elif self._waiting.is_on:
-                self._waiting.ends()
+            if self._failure:
+                self._status.waits(self._failure, len(self._pending))
+            elif room.state != "open":
+                self._status.waits(NO_WORKER if room.is_queued else f"the connection to {room.url} broke")
+            elif not self._pending and not self._is_busy:
+                self._status.saved(str(self._position()))
+            else:
+                self._status.goes_on()
             is_idle = room.state != "open" and not self._pending and not self._is_busy
             idle = idle + 1 if is_idle else 0
             if idle == 0:
@@ -288,37 +306,55 @@ class Keeper:
             return False
         finally:
             self._is_busy = False
-        if self._failing_since is not None:
-            self._failing_since = None
-            self.note("news are saved again")
-            self._waiting.ends()
+        self._is_written()
         if self.plan.print_saved:
             self.report(f"saved {position.run} {position.seq}")
         return True
 
     def _fail(self, what: str) -> None:
-        """Reports that news could not be saved. Raises NotSaved if that lasts for too long."""
+        """Reports that something could not be saved. Raises NotSaved if that lasts for too long."""
         now = time.monotonic()
         if self._failing_since is None:
             self._failing_since = now
-            self.note(f"news are not saved: {what}")
-            show_status(f"news of {self.plan.room} are not saved: {what}")
+        self._failure = what
+        self._status.waits(what, len(self._pending))
         if now - self._failing_since > self.plan.patience:
             raise NotSaved(f"news were not saved for {self.plan.patience:g} seconds: {what}")
 
+    def _is_written(self) -> None:
+        """Notes that something was saved."""
+        self._failing_since, self._failure = None, ""
+
     async def _snapshot_at_start(self) -> None:
-        """Saves a snapshot of the map with which the keeper begins. Raises OSError if that fails."""
-        assert self._saved is not None
-        gap, self._pending = b"".join(self._pending), []
+        """Saves a snapshot of the map with which the keeper begins. Raises OSError or NotSaved if that fails."""
+        gap, folder = b"".join(self._pending), self.folder
         if gap:
             # The gap is an entry after what was saved before, so it goes into the journal before the new snapshot.
-            self.folder.begin_journal()
-            assert self.folder.journal is not None
-            await asyncio.to_thread(self.folder.journal.append, gap)
-        number = self.folder.begin_journal()
+            await self._retried(folder.begin_journal)
+            assert folder.journal is not None
+            await self._retried(folder.journal.append, gap)
+        self._pending = []
+        number = await self._retried(folder.begin_journal)
         self._entries_since_snapshot = 0
-        await self._save(number, self._captured())
+        snapshot = self._captured()
+        await self._retried(folder.save, number, snapshot, self.plan.snapshots)
+        self._report_snapshot(number, snapshot)
+        self._status.saved(str(self._position()))
         self.note(f"keeping {self.plan.room} from {self._position()}")
+
+    async def _retried(self, write: Callable[..., Result], *arguments: object) -> Result:
+        """Writes by a call, also to a disk that is full for a while. Raises OSError if the keeper is to end first, and
+        NotSaved if that lasts for too long."""
+        while True:
+            try:
+                result = await asyncio.to_thread(write, *arguments)
+                self._is_written()
+                return result
+            except OSError as fault:
+                self._fail(f"{fault.filename or self.folder.path}: {fault.strerror}")
+                await self._sleep(PAUSE)
+                if self._ends.is_set():
+                    raise
 
     async def _save_snapshots(self) -> None:
         """Saves a snapshot from time to time, if something changed."""
@@ -352,5 +388,9 @@ class Keeper:
     async def _save(self, number: int, snapshot: Snapshot) -> None:
         """Saves a snapshot whose journal has begun. Raises OSError."""
         await asyncio.to_thread(self.folder.save, number, snapshot, self.plan.snapshots)
+        self._report_snapshot(number, snapshot)
+
+    def _report_snapshot(self, number: int, snapshot: Snapshot) -> None:
+        """Reports a saved snapshot, if the plan says so."""
         if self.plan.print_saved:
             self.report(f"snapshot {number} {snapshot.position.run} {snapshot.position.seq}")
