@@ -58,11 +58,12 @@ SCRIPTS = [
     *benchmarks("program", "lines --sizes 50,100 --rounds 1", "held --elements 100 --entries 100"),
     *benchmarks("program", "group_costs --quick", "instructions", "undos --seeds 2 --rounds 30"),
     *benchmarks("server", "serve --quick", "many_rooms --elements 100 --rooms 1,3"),
-    *benchmarks("server", "joins --elements 100 --clients 1,3"),
+    *benchmarks("server", "joins --elements 100 --clients 1,3", "collisions --keys 100"),
     *benchmarks("program", "turns --turns 1000"),
     *benchmarks("clients", "josm --changes 20 --elements 700 --rounds 1"),
     *benchmarks("web", "page_races --races 6"),
     *scripts("server", "soak --seconds 5 --pace 20", "evening --seconds 5 --rooms 2 --pace 3"),
+    *scripts("server", "attacks --seconds 3"),
 ]
 
 # All parts, in the order of tests/run.

@@ -6,7 +6,7 @@
     %(prog)s --since 2h /var/lib/maproom/hamlet
 
 The keeper appends each change to a journal in the folder, within 100 ms. It also saves snapshots of the map. SIGTERM
-ends it, with everything saved. While it waits for its room, it says so each minute.
+ends it, with everything saved. While it waits, it says why each minute.
 
 --restore prints the map that was saved last, for `maproom serve --base`. It also works if the keeper was killed. If a
 keeper is connected, --restore first waits until the server has ended and the keeper has saved everything, but 5 seconds
